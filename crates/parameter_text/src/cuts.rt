@@ -5,9 +5,9 @@ ghost use mathlib.Core.List.{[], _∷_};
 ghost use Prim.Native.Nat.{ℕ, _+_, _≤_, _<_};
 ghost use lib.Dec.{eqb};
 ghost use lib.ListN.{length, drop};
-ghost use Rattle.std.specs.Options.{Cases};
+ghost use Rattle.std.specs.Options.{Cases, mapped};
 ghost use Rattle.std.specs.shelf.Lists.{leading};
-ghost use Rattle.parameter_text.specs.Cuts.{split, cells, chomped, line-of, after-line, lines};
+ghost use Rattle.parameter_text.specs.Cuts.{split, parts-of, cells, all-empty, chomped, line-of, after-line, lines};
 ghost use Rattle.parameter_text.specs.Left.{cells-left, lines-left, text-left};
 
 // How many bytes stand before the first `b`.
@@ -64,6 +64,29 @@ impl<'a> Cells<'a> {
             }
         }
     }
+
+    // The text of the cells that are still to come, if any is.
+    pub fn rest(&self) -> Option<&'a [u8]>
+        ensures { λ r. ⌜ cells-left (now (self .entry)) ≡ parts-of 44 (mapped now r) ⌝ }
+    {
+        match self.rest {
+            Some(text) => Some(text),
+            None => None,
+        }
+    }
+
+    // Are all cells that are still to come empty?
+    pub fn are_empty(self) -> bool
+        ensures { λ r. ⌜ r ≡ all-empty (cells-left (self .entry)) ⌝ }
+    {
+        let mut left = self;
+        while let Some(cell) = left.next_cell() {
+            if !cell.is_empty() {
+                return false;
+            }
+        }
+        true
+    }
 }
 
 // A line without the CR that stands before its LF.
@@ -109,7 +132,8 @@ impl<'a> Lines<'a> {
     pub fn rest(&self) -> &'a [u8]
         ensures { λ r. ⌜ now r ≡ text-left (now (self .entry)) ⌝ }
     {
-        self.rest
+        let text = self.rest;
+        text
     }
 
     // The next line without its end, or none at the end of the text.

@@ -1,0 +1,4 @@
+mod FigureLaws
+mod LengthLaws
+mod WordLaws
+mod WriteLaws

@@ -1,0 +1,12 @@
+pub mod Answered
+pub mod RowLaws
+pub mod FileLaws
+pub mod HeadLaws
+pub mod KeptLaws
+pub mod LineCells
+pub mod TableLaws
+pub mod ReadingLaws
+pub mod TestLaws
+pub mod JudgingLaws
+pub mod IndexLaws
+pub mod SummaryLaws

@@ -1,0 +1,4 @@
+pub mod ReturnLaws
+pub mod UsualCells
+pub mod UsualRows
+pub mod Verdicts

@@ -19,7 +19,7 @@ RATTLE
 )
 # The words by which the compiler refuses it; each line must stand somewhere in what it prints.
 words=$(cat <<'WORDS'
-TO BE FILLED IN
+error[unknown-method]: no method named `tier` found for type `Received`
 WORDS
 )
 # The same function over a checked file, which compiles; it shows that the refusal is for the state and nothing else.

@@ -18,7 +18,7 @@ use Rattle.parameter_text.specs.Cuts.{cells, spliced}
 use Rattle.parameter_text.proofs.CutLaws.{Apart, split-cut, split-last, spliced-split, split-apart}
 use Rattle.parameter_text.proofs.DigitLaws.{every-fact, ok-cond, ok-same, ok-not-err}
 use Rattle.parameter_heading.specs.Lines.{same-text, one-cell, value-after, valued-line, Judgement}
-use Rattle.parameter_heading.specs.Laid.{One-cell, Gives}
+use Rattle.parameter_heading.specs.Laid.{No-comma, Gives}
 use Rattle.parameter_heading.proofs.LineSteps.{answer, valued-first}
 
 -- two judgements, one after the other
@@ -46,14 +46,14 @@ same-self name = compares-decides same-text (search needs) name name .1 refl
 abbrev pub whole-name : List ℕ → Bool
 whole-name name = every (λ b. not (eqb b 44)) name
 
-no-comma : (b : ℕ) → not (eqb b 44) ≡ true → b ≡ 44 → ⊥
-no-comma b h = eqb-false b 44 (not-true (eqb b 44) h)
+not-comma : (b : ℕ) → not (eqb b 44) ≡ true → b ≡ 44 → ⊥
+not-comma b h = eqb-false b 44 (not-true (eqb b 44) h)
 
-is-no-comma : (b : ℕ) → (b ≡ 44 → ⊥) → not (eqb b 44) ≡ true
-is-no-comma b h = not-from-false (eqb b 44) (ne-eqb b 44 h)
+comma-free : (b : ℕ) → (b ≡ 44 → ⊥) → not (eqb b 44) ≡ true
+comma-free b h = not-from-false (eqb b 44) (ne-eqb b 44 h)
 
 pub name-apart : (name : List ℕ) → whole-name name ≡ true → Apart 44 name
-name-apart name h = every-fact (λ b. not (eqb b 44)) (λ b. b ≡ 44 → ⊥) is-no-comma no-comma name h
+name-apart name h = every-fact (λ b. not (eqb b 44)) (λ b. b ≡ 44 → ⊥) comma-free not-comma name h
 
 -- a name and a value
 
@@ -68,7 +68,7 @@ value-parts name (c ∷ cs) v h =
     let p = ok-cond (same-text c name) (one-cell cs) Name v h in
     ap (λ (x : List ℕ). x ∷ cs) (same-fact c name (p .0)) ∙ ap (λ (l : List (List ℕ)). name ∷ l) (one-parts cs v (p .1))
 
-value-both : (name line v : List ℕ) → Apart 44 name → line ≡ name ++ 44 ∷ v → One-cell v → value-after name (cells line) ≡ Ok v
+value-both : (name line v : List ℕ) → Apart 44 name → line ≡ name ++ 44 ∷ v → No-comma v → value-after name (cells line) ≡ Ok v
 value-both name line v a e o =
     let cut : cells line ≡ name ∷ v ∷ [] = ap cells e ∙ split-cut 44 name v a ∙ ap (λ (l : List (List ℕ)). name ∷ l) (split-last 44 v o) in
     ap (value-after name) cut ∙ cond-true (same-text name name) (Ok v) (Err Name) (same-self name)

@@ -17,12 +17,12 @@ use Rattle.parameter_heading.specs.Names.{valuation-date, historical-weight, s
 use Rattle.parameter_heading.specs.Headings.{tail-count, heading}
 
 -- no byte of a value is a comma
-abbrev pub One-cell : List ℕ → Type 0
-One-cell value = All (λ b. b ≡ 44 → ⊥) value
+abbrev pub No-comma : List ℕ → Type 0
+No-comma value = All (λ b. b ≡ 44 → ⊥) value
 
 -- the line is the name, a comma and one value, of which P holds
 abbrev pub Gives : List ℕ → List ℕ → (List ℕ → Type 0) → Type 0
-Gives line name P = (value : List ℕ) × (line ≡ name ++ 44 ∷ value) × One-cell value × P value
+Gives line name P = (value : List ℕ) × (line ≡ name ++ 44 ∷ value) × No-comma value × P value
 
 -- a value spells a share of 1, so many ten-thousandths
 abbrev pub Spells-share : ℕ → List ℕ → Type 0

@@ -2,7 +2,7 @@
 -- cells that its type needs, and after them only empty cells. No row comes after one of its stock and kind, and a stock
 -- with returns has them in both sets and no flat rate. Assumes nothing.
 use Rattle.std.specs.Prelude.{◌≡◌, ℕ, ◌<◌, ◌≤◌, Bool, true, false, List, [], ◌∷◌, ◌++◌, length, replicate, ℤ, pos, neg_ℤ, is_some, Ok, ◌≢◌, unsigned_abs}
-use Rattle.std.specs.List.{AllByRecursion as All}
+use Rattle.std.specs.List.{AllByRecursion}
 use Rattle.parameter_text.specs.Cuts.{lines, spliced}
 use Rattle.parameter_text.specs.Decimals.{Spells}
 use Rattle.parameter_text.specs.Integers.{Writes, Writes-stock}
@@ -20,7 +20,7 @@ use Rattle.file_rules.specs.Judged.{most_bytes, stock-places, verdict}
 
 -- a cell has no comma
 abbrev pub Cell : List ℕ → Type 0
-Cell c = All (λ x. x ≢ 44) c
+Cell c = AllByRecursion (λ x. x ≢ 44) c
 
 abbrev pub set-number : ScenarioSet → ℕ
 set-number Historical = 1
@@ -66,7 +66,7 @@ Lays-content p number cs unread = (4 ≤ number) × (number ≤ 6)
 
 pub record Row-text (p : Parameters) (line : List ℕ) (r : Row) (c d : List ℕ) (cs : List (List ℕ)) (number : ℕ) : Type 0 where
   pub text : line ≡ spliced 44 (c ∷ d ∷ cs)
-  pub apart : All Cell (c ∷ d ∷ cs)
+  pub apart : AllByRecursion Cell (c ∷ d ∷ cs)
   pub stock : Writes-stock c r.stock
   pub type : Writes 1 7 d number
   pub content : Lays-content p number cs r.content
@@ -91,7 +91,7 @@ alike unread x = false
 
 -- none of the rows done has this row's stock and kind
 abbrev pub None-alike : List Row → Row → Type 0
-None-alike done r = All (λ (q : Row). q.stock ≡ r.stock → alike r.content q.content ≢ true) done
+None-alike done r = AllByRecursion (λ (q : Row). q.stock ≡ r.stock → alike r.content q.content ≢ true) done
 
 -- each row is the first of its stock and kind
 abbrev pub Firsts : List Row → List Row → Type 0

@@ -2,7 +2,7 @@
 -- returns start, its rate, its entitlements and the line of its first row of returns or rate. Assumes nothing.
 use Rattle.std.specs.Prelude.{◌≡◌, ℕ, ◌+◌, ◌*◌, ◌<◌, ◌≤◌, Bool, false, cond, List, [], ◌∷◌, ◌++◌, length, take, drop, ℤ, is_some, Some, None, Ok, Err, Option, Result, ◌≢◌, slice_index_or}
 use Rattle.std.specs.Option.{unwrap_or}
-use Rattle.std.specs.List.{AllByRecursion as All}
+use Rattle.std.specs.List.{AllByRecursion}
 use Rattle.parameter_text.specs.declared.terms.Question.{Question}
 use Rattle.parameter_text.specs.Cuts.{cells, spliced, line_of, after_line}
 use Rattle.parameter_rows.specs.Returns.{returns-cells}
@@ -143,7 +143,7 @@ Read-cells j text before after (Err q) = j ≡ Err q
 
 -- a cell has no LF
 abbrev pub One-line : List ℕ → Type 0
-One-line c = All (λ x. x ≢ 10) c
+One-line c = AllByRecursion (λ x. x ≢ 10) c
 
 -- the cells after the head were judged: what they hold, and what was kept of them
 pub record Cells-judged (j : Result Content Question) (cs : List (List ℕ)) (before after : List ℤ) (f : Found) (vs : List ℤ) : Type 0 where

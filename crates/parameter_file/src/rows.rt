@@ -1,6 +1,6 @@
 // One row from the front of a text.
 ghost use Rattle.std.specs.Prelude.{◌≡◌, ◌+◌, ◌≤◌, [], length, vec_len, vec_capacity, MatchResult};
-ghost use Rattle.std.specs.List.{AllByRecursion as All};
+ghost use Rattle.std.specs.List.{AllByRecursion};
 ghost use Rattle.parameter_text.specs.Cuts.{cells, line_of, after_line};
 ghost use Rattle.parameter_rows.specs.Returns.{returns-cells};
 ghost use Rattle.return_source.specs.Lawful.{scenario-count};
@@ -103,7 +103,7 @@ fn judged_cells(
 ) -> Result<Found, Question>
     requires room { vec_len kept.old + 4000 ≤ vec_capacity kept.old }
     requires counts { Counts p.now }
-    requires line { All One-line (cells_left cells) }
+    requires line { AllByRecursion One-line (cells_left cells) }
     ensures cells { Judged-cells (content p.now kind (cells_left cells.entry)) (cells_left cells.entry) kept.old.items kept.new.items result }
     ensures room { vec_capacity kept.old ≤ vec_capacity kept.new }
 {

@@ -1,7 +1,7 @@
 -- Which thirteen lines lay down which heading: twelve that give a name its value, and the titles of the columns.
 -- The law says that the judgement and this relation agree on every file. Assumes nothing.
 use Rattle.std.specs.Prelude.{◌≡◌, ℕ, ◌+◌, ◌-◌, ◌*◌, ◌<◌, ◌≤◌, max, List, [], ◌∷◌, ◌++◌, length, pos, Ok, ◌≢◌, slice_index_or}
-use Rattle.std.specs.List.{AllByRecursion as All}
+use Rattle.std.specs.List.{AllByRecursion}
 use Rattle.parameter_text.specs.Cuts.{spliced}
 use Rattle.parameter_text.specs.Dates.{Writes-date}
 use Rattle.parameter_text.specs.Decimals.{Spells}
@@ -13,7 +13,7 @@ use Rattle.parameter_heading.specs.Headings.{tail-count, heading}
 
 -- no byte of a value is a comma
 abbrev pub No-comma : List ℕ → Type 0
-No-comma value = All (λ b. b ≢ 44) value
+No-comma value = AllByRecursion (λ b. b ≢ 44) value
 
 -- the line is the name, a comma and one value, of which P holds
 abbrev pub Gives : List ℕ → List ℕ → (List ℕ → Type 0) → Type 0

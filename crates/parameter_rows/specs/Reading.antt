@@ -1,6 +1,6 @@
 -- What the reader of usual rows finds at a place of the text. Assumes nothing.
 use Rattle.std.specs.Prelude.{◌≡◌, ℕ, ◌+◌, ◌-◌, ◌*◌, ◌^◌, ◌≤◌, List, ◌++◌, length, take, replicate}
-use Rattle.std.specs.List.{AllByRecursion as All}
+use Rattle.std.specs.List.{AllByRecursion}
 use Rattle.parameter_text.specs.Digits.{Digit, number}
 use Rattle.parameter_text.specs.Decimals.{scaled, point-text}
 use Rattle.parameter_text.specs.Cuts.{Starts}
@@ -8,15 +8,15 @@ use Rattle.parameter_text.specs.Cuts.{Starts}
 -- k digits in front, at most eight, and the number n that they write on from one digit
 pub record Digits (text : List ℕ) (whole n k : ℕ) : Type 0 where
   pub few : k ≤ 8
-  pub all : All Digit (take k text)
+  pub all : AllByRecursion Digit (take k text)
   pub value : n ≡ number whole (take k text)
   pub small : (n + 1) * 10 ^ (8 - k) ≤ 1000000000
 
 -- one digit, and perhaps a point and one to eight digits: the size n, in hundred-millionths
 pub record Unsigned (text : List ℕ) (n : ℕ) (whole fraction : List ℕ) : Type 0 where
   pub parts : text ≡ whole ++ point-text fraction
-  pub whole-digits : All Digit whole
-  pub fraction-digits : All Digit fraction
+  pub whole-digits : AllByRecursion Digit whole
+  pub fraction-digits : AllByRecursion Digit fraction
   pub one : length whole ≡ 1
   pub eight : length fraction ≤ 8
   pub value : n ≡ scaled 8 whole fraction

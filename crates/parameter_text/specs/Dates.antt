@@ -1,7 +1,7 @@
 -- Dates: day/month/year in one or two, one or two, and four digits, a day of the calendar from 2000 to 2099.
 -- Assumes nothing.
 use Rattle.std.specs.Prelude.{◌≡◌, ℕ, ◌%◌, ◌≤◌, Bool, true, cond, not, ◌&&◌, ◌||◌, List, [], ◌∷◌, ◌++◌, length, Some, None, Ok, Err, Option, Result, ◌==◌, nat_le}
-use Rattle.std.specs.List.{AllByRecursion as All}
+use Rattle.std.specs.List.{AllByRecursion}
 use Rattle.parameter_text.specs.declared.terms.Question.{Question}
 use Rattle.parameter_text.specs.declared.terms.Question.TheVariants.{Form, Range}
 use Rattle.parameter_text.specs.declared.terms.Date.{Date}
@@ -24,9 +24,9 @@ real d = (nat_le 2000 d.year && nat_le d.year 2099) && ((nat_le 1 d.month && nat
 -- The relation: these bytes write the day d.
 pub record Dating (bs : List ℕ) (d : Date) (day month year : List ℕ) : Type 0 where
   pub text : bs ≡ day ++ 47 ∷ (month ++ 47 ∷ year)
-  pub day-digits : All Digit day
-  pub month-digits : All Digit month
-  pub year-digits : All Digit year
+  pub day-digits : AllByRecursion Digit day
+  pub month-digits : AllByRecursion Digit month
+  pub year-digits : AllByRecursion Digit year
   pub day-one : 1 ≤ length day
   pub day-two : length day ≤ 2
   pub month-one : 1 ≤ length month

@@ -1,7 +1,7 @@
 -- Decimals: an optional minus, one to four digits, and optionally a point with one to ten digits. A value of so
 -- many places has only zeros beyond them, and is counted in the unit of its last place. Assumes nothing.
 use Rattle.std.specs.Prelude.{◌≡◌, ℕ, ◌+◌, ◌-◌, ◌*◌, ◌^◌, ◌≤◌, Bool, true, false, cond, ◌&&◌, List, [], ◌∷◌, ◌++◌, length, take, drop, ℤ, pos, neg_ℤ, ◌≤ℤ◌, Ok, Err, Result, ◌==◌, int_le, nat_eq, nat_le}
-use Rattle.std.specs.List.{prefix_len, AllByRecursion as All}
+use Rattle.std.specs.List.{prefix_len, AllByRecursion}
 use Rattle.parameter_text.specs.declared.terms.Question.{Question}
 use Rattle.parameter_text.specs.declared.terms.Question.TheVariants.{Form, Range}
 use Rattle.parameter_text.specs.declared.terms.Places.{Places}
@@ -34,12 +34,12 @@ point-text (d ∷ ds) = 46 ∷ d ∷ ds
 
 pub record Spelling (places : ℕ) (low high : ℤ) (bs : List ℕ) (v : ℤ) (minus : Bool) (whole fraction : List ℕ) : Type 0 where
   pub text : bs ≡ sign_text minus ++ (whole ++ point-text fraction)
-  pub whole-digits : All Digit whole
-  pub fraction-digits : All Digit fraction
+  pub whole-digits : AllByRecursion Digit whole
+  pub fraction-digits : AllByRecursion Digit fraction
   pub one : 1 ≤ length whole
   pub four : length whole ≤ 4
   pub ten : length fraction ≤ 10
-  pub no-more-places : All (λ d. d ≡ 48) (drop places fraction)
+  pub no-more-places : AllByRecursion (λ d. d ≡ 48) (drop places fraction)
   pub value : v ≡ signed minus (scaled places whole fraction)
   pub at_least : low ≤ℤ v
   pub at_most : v ≤ℤ high

@@ -1,6 +1,6 @@
 -- Integers: one to nine digits, zeros in front allowed. A stock starts with no zero. Assumes nothing.
 use Rattle.std.specs.Prelude.{◌≡◌, ℕ, ◌≤◌, Bool, false, cond, ◌&&◌, List, [], ◌∷◌, length, Some, None, Ok, Err, Option, Result, ◌==◌, nat_le, slice_index_or}
-use Rattle.std.specs.List.{AllByRecursion as All}
+use Rattle.std.specs.List.{AllByRecursion}
 use Rattle.parameter_text.specs.declared.terms.Question.{Question}
 use Rattle.parameter_text.specs.declared.terms.Question.TheVariants.{Form, Range}
 use Rattle.parameter_text.specs.Digits.{Digit, digit, every, number}
@@ -11,7 +11,7 @@ last-stock = 99999
 
 -- The relation: these bytes write the number n, from low to high.
 pub record Writes (low high : ℕ) (bs : List ℕ) (n : ℕ) : Type 0 where
-  pub digits : All Digit bs
+  pub digits : AllByRecursion Digit bs
   pub one : 1 ≤ length bs
   pub nine : length bs ≤ 9
   pub value : n ≡ number 0 bs

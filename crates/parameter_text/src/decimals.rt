@@ -1,6 +1,6 @@
 // Decimals: an optional minus, one to four digits, and optionally a point with one to ten digits.
 ghost use Rattle.std.specs.Prelude.{◌≡◌, ℕ, ◌+◌, ◌-◌, ◌*◌, ◌^◌, ◌≤◌, length, take, drop};
-ghost use Rattle.std.specs.List.{AllByRecursion as All};
+ghost use Rattle.std.specs.List.{AllByRecursion};
 ghost use Rattle.parameter_text.specs.Digits.{Digit};
 ghost use Rattle.parameter_text.specs.Decimals.{place-count, scaled, signed, minus-in, unsigned-in, pointed, formed, valued, judged, plain as plain_of_lem, decimal, Decimals-pass};
 
@@ -96,9 +96,9 @@ fn power(k: usize) -> u64
 
 // The size of a decimal in units of its last place.
 fn size_of(whole: &[u8], fraction: &[u8], places: usize) -> u64
-    requires whole { All Digit whole.now }
+    requires whole { AllByRecursion Digit whole.now }
     requires four { length whole.now ≤ 4 }
-    requires fraction { All Digit fraction.now }
+    requires fraction { AllByRecursion Digit fraction.now }
     requires places { places ≤ 10 }
     ensures value { result ≡ scaled places whole.now fraction.now }
     ensures bound { result ≤ 100020000000000 }
@@ -130,7 +130,7 @@ fn in_range(rule: &DecimalRule, places: usize, fraction: &[u8], v: i64) -> Resul
 
 // A cell in its parts: its sign, the digits of its whole part, and what follows them.
 fn parts(rule: &DecimalRule, minus: bool, whole: &[u8], rest: &[u8]) -> Result<i64, Question>
-    requires { All Digit whole.now }
+    requires { AllByRecursion Digit whole.now }
     ensures { result ≡ judged (place-count rule.now.places) rule.now.low rule.now.high minus whole.now rest.now }
 {
     if !is_formed(whole, rest) {

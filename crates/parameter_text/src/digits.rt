@@ -1,6 +1,6 @@
 // Digits, and the number that they write.
 ghost use Rattle.std.specs.Prelude.{◌≡◌, ℕ, ◌+◌, ◌-◌, ◌*◌, ◌^◌, ◌≤◌, length, nat_eq};
-ghost use Rattle.std.specs.List.{prefix_len, AllByRecursion as All};
+ghost use Rattle.std.specs.List.{prefix_len, AllByRecursion};
 ghost use Rattle.parameter_text.specs.Digits.{Digit, digit, every, number};
 
 fn is_digit(b: u8) -> bool
@@ -45,7 +45,7 @@ pub(crate) fn all_digits(bytes: &[u8]) -> bool
 
 // The number that at most ten digits write.
 pub(crate) fn number_of(bytes: &[u8]) -> u64
-    requires digits { All Digit bytes.now }
+    requires digits { AllByRecursion Digit bytes.now }
     requires few { length bytes.now ≤ 10 }
     ensures value { result ≡ number 0 bytes.now }
     ensures bound { (result + 1) * 10 ^ (10 - length bytes.now) ≤ 10000000000 }

@@ -1,6 +1,6 @@
 // Integers: one to nine digits. A stock starts with no zero.
 ghost use Rattle.std.specs.Prelude.{◌≡◌, ℕ, ◌≤◌, length};
-ghost use Rattle.std.specs.List.{AllByRecursion as All};
+ghost use Rattle.std.specs.List.{AllByRecursion};
 ghost use Rattle.parameter_text.specs.Digits.{Digit, number};
 ghost use Rattle.parameter_text.specs.Integers.{whole-formed, whole_of, bounded, integer, zero-first, stock-of, stock-cell, Integers-pass, Stocks-pass};
 
@@ -21,7 +21,7 @@ fn is_whole(cell: &[u8]) -> bool
 
 // The number that one to nine digits write.
 pub(crate) fn small_number(cell: &[u8]) -> u32
-    requires digits { All Digit cell.now }
+    requires digits { AllByRecursion Digit cell.now }
     requires few { length cell.now ≤ 9 }
     ensures { result ≡ number 0 cell.now }
 {

@@ -2,7 +2,7 @@
 -- whole, a row has a return for each scenario, and a stock has returns in both sets or in none, and with them no flat
 -- rate. A meaning gives a stock at most one row of each kind, since it is a function of the stock. Assumes nothing.
 use Rattle.std.specs.Prelude.{◌≡◌, ℕ, ◌+◌, ◌≤◌, true, false, List, length, ℤ, is_some, IfSome, Some, unsigned_abs}
-use Rattle.std.specs.List.{AllByRecursion as All}
+use Rattle.std.specs.List.{AllByRecursion}
 use Rattle.return_source.specs.declared.terms.Entitlement.{Entitlement}
 use Rattle.return_source.specs.declared.terms.EntitlementType.{EntitlementType}
 use Rattle.return_source.specs.declared.terms.Parameters.{Parameters}
@@ -38,7 +38,7 @@ scenario-count p Stress = p.stress.count
 -- a row of returns: one for each scenario, each from -4 to 4, in hundred-millionths
 pub record Lawful-row (count : ℕ) (xs : List ℤ) : Type 0 where
   pub long : length xs ≡ count
-  pub small : All (λ z. unsigned_abs z ≤ 400000000) xs
+  pub small : AllByRecursion (λ z. unsigned_abs z ≤ 400000000) xs
 
 -- an entitlement: a price of at most 9,999 and percentages of at most 4 in size, in ten-thousandths
 pub record Lawful-entitlement (e : Entitlement) : Type 0 where

@@ -1,40 +1,41 @@
 #!/usr/bin/env bash
-# A file that has not been checked cannot be handed to a question that only a checked file answers: that does not compile.
-# This script holds the misuse as text, tries it on a copy of the repository and expects the compiler's words.
+# Two misuses do not compile: assessing over a file that has not been checked, and posting to a closed account. This script
+# holds each as text, adds it to a copy of the program, and expects the compiler's words; and the lawful use beside it compiles.
 # Usage: scripts/misuse.sh [--keep]     (--keep leaves the copy in place)
 # Prints a line for each try and ends 'N passed, M failed'.
 set -u
 
-# ---- the misuse, as text ---------------------------------------------------------------------------------------------
 # The crate that the functions are added to, and the file in which they are put at the end.
-crate=parameter_file
-file=crates/parameter_file/src/lib.rt
-# The misuse: a function that takes a received file and asks it what only a checked file answers.
-misuse=$(cat <<'RATTLE'
+crate=margin_call
+file=crates/margin_call/src/main.rt
 
-use return_source::ReturnSource;
+# ---- the misuses, as text --------------------------------------------------------------------------------------------
+over_an_unchecked_file=$(cat <<'RATTLE'
 
-pub fn tier_before_the_check(file: &Received<'_>, stock: u32) -> Option<return_source::Tier> {
-    file.tier(stock)
+pub fn assess_before_the_check(
+    account: &ClosedAccount<'_>,
+    file: &Received<'_>,
+    totals: &mut [i64],
+    row: &mut [i32],
+    tail: &mut [Outcome],
+    holdings: &mut [Holding],
+) {
+    let _ = account.assess(file, totals, row, tail, holdings);
 }
 RATTLE
 )
-# The words by which the compiler refuses it; each line must stand somewhere in what it prints.
-words=$(cat <<'WORDS'
-error[unknown-method]: the method `tier` exists for `Received`, but its bounds are not met
-WORDS
-)
-# The same function over a checked file, which compiles; it shows that the refusal is for the state and nothing else.
-# Leave it empty to skip that try.
-lawful_use=$(cat <<'RATTLE'
+over_an_unchecked_file_words="the trait bound \`Received: ReturnSource\` is not satisfied"
+over_a_checked_file=$(sed 's/before_the_check/after_the_check/; s/Received/parameter_file::CheckedFile/' <<<"$over_an_unchecked_file")
 
-use return_source::ReturnSource;
+to_a_closed_account=$(cat <<'RATTLE'
 
-pub fn tier_after_the_check(file: &CheckedFile<'_>, stock: u32) -> Option<return_source::Tier> {
-    file.tier(stock)
+pub fn post_after_closing(account: &mut ClosedAccount<'_>, posting: ledger::Posting) {
+    let _ = account.post(posting);
 }
 RATTLE
 )
+to_a_closed_account_words="no method named \`post\` found for type \`ClosedAccount\`"
+to_an_open_account=$(sed 's/after_closing/before_closing/; s/ClosedAccount/OpenAccount/' <<<"$to_a_closed_account")
 # ---------------------------------------------------------------------------------------------------------------------
 
 root=$(cd "$(dirname "$0")/.." && pwd)
@@ -65,6 +66,22 @@ try() {
     status=$?
 }
 
+# refused NAME TEXT WORDS: the text does not compile, and the compiler says why.
+refused() {
+    local ok=no
+    try "$2"
+    [ "$status" != 0 ] && grep -qF -- "$3" "$folder/said" && ok=yes
+    answer "$1" "$ok"
+}
+
+# accepted NAME TEXT: the text compiles and is proved.
+accepted() {
+    local ok=no
+    try "$2"
+    [ "$status" = 0 ] && ok=yes
+    answer "$1" "$ok"
+}
+
 if [ ! -f "$root/$file" ]; then
     echo "$file is not there: see the top of $0" >&2
     exit 1
@@ -74,23 +91,10 @@ fi
 mkdir "$folder/copy"
 (cd "$root" && tar cf - --exclude=./.git --exclude=./bench/target .) | (cd "$folder/copy" && tar xf -)
 
-try "$misuse"
-ok=no
-[ "$status" != 0 ] && ok=yes
-answer "an unchecked file handed on is refused" "$ok"
-
-while IFS= read -r line; do
-    ok=no
-    grep -qF -- "$line" "$folder/said" && ok=yes
-    answer "the compiler says: $line" "$ok"
-done <<<"$words"
-
-if [ -n "$lawful_use" ]; then
-    try "$lawful_use"
-    ok=no
-    [ "$status" = 0 ] && ok=yes
-    answer "a checked file handed on is accepted" "$ok"
-fi
+refused "assessing over an unchecked file is refused" "$over_an_unchecked_file" "$over_an_unchecked_file_words"
+accepted "assessing over a checked file is accepted" "$over_a_checked_file"
+refused "posting to a closed account is refused" "$to_a_closed_account" "$to_a_closed_account_words"
+accepted "posting to an open account is accepted" "$to_an_open_account"
 
 [ "$keep" = yes ] && echo "the copy is in $folder"
 echo "$passed passed, $failed failed"

@@ -4,6 +4,8 @@
 
 pub mod cases;
 pub mod check;
+pub mod days;
+pub mod margin;
 pub mod number;
 pub mod programs;
 pub mod random;

@@ -1,4 +1,1 @@
-mod FigureLaws
-mod LengthLaws
 mod WordLaws
-mod WriteLaws

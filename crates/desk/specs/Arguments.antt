@@ -3,8 +3,8 @@
 use Rattle.std.specs.Prelude.{ℕ, Bool, cond, not, ◌&&◌, ◌||◌, List, [], ◌∷◌, ◌++◌, map, length, Some, None, Ok, Err, string_bytes, codes, filter, Option, Result, String, ◌==◌, nat_lt, slice_index}
 use Rattle.std.specs.Str.{bytes_eq}
 use Rattle.std.specs.declared.alloc.Global.{Global}
-use Rattle.desk.specs.declared.arguments.Form.{Form}
-use Rattle.desk.specs.declared.arguments.Form.TheVariants.{Report, Csv}
+use Rattle.figures.specs.declared.form.Form.{Form}
+use Rattle.figures.specs.declared.form.Form.TheVariants.{Report, Csv}
 use Rattle.desk.specs.declared.arguments.Kind.{Kind}
 use Rattle.desk.specs.declared.arguments.Kind.TheVariants as kind
 use Rattle.desk.specs.declared.arguments.Request.{Request}

@@ -4,7 +4,7 @@ use Rattle.parameter_text.specs.Questions.{question-number}
 use Rattle.return_source.specs.declared.terms.Parameters.{Parameters}
 use Rattle.parameter_heading.specs.declared.terms.Fault.{Fault}
 use Rattle.parameter_file.specs.declared.terms.Summary.{Summary}
-use Rattle.desk.specs.Figures.{pointed, iso-date}
+use Rattle.figures.specs.Figures.{pointed, iso-date}
 
 -- the weight, the number of scenarios and the tail count of each set
 abbrev pub scenario-lines : Parameters → List ℕ

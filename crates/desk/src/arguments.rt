@@ -4,14 +4,8 @@ ghost use Rattle.std.specs.Option.{option_map};
 ghost use Rattle.std.specs.Str.{bytes_eq};
 ghost use Rattle.desk.specs.Arguments.{dashed, known, is-of, of-kind, first_of, texts, told, request-of, usage-text};
 
+use figures::Form;
 use std::fmt;
-
-// How the answer is printed: for people, or for scripts.
-#[derive(Clone, Copy)]
-pub enum Form {
-    Report,
-    Csv,
-}
 
 // What the program is asked to do.
 #[derive(Clone, Copy)]

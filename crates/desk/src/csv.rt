@@ -2,7 +2,7 @@
 ghost use Rattle.std.specs.Prelude.{Some};
 ghost use Rattle.desk.specs.Csv.{fault-line, scenario-lines, stock-lines, summary-lines};
 
-use super::figures::{FourPlaces, IsoDate, TenPlaces};
+use figures::{FourPlaces, IsoDate, TenPlaces};
 use parameter_file::Summary;
 use parameter_heading::Fault;
 use return_source::Parameters;

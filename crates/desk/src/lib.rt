@@ -2,13 +2,12 @@
 #![tactic(auto)]
 
 mod arguments;
-mod columns;
 mod csv;
-mod figures;
 mod report;
 #[cfg(test)]
 mod tests;
 
-pub use arguments::{Form, Request, UsageError};
+pub use arguments::{Request, UsageError};
 pub use csv::{CsvFault, CsvSummary};
+pub use figures::Form;
 pub use report::{FaultReport, SummaryReport};

@@ -2,13 +2,15 @@
 ghost use Rattle.std.specs.Prelude.{◌≡◌, Some};
 ghost use Rattle.desk.specs.Reports.{fault-report, meaning as meaning-of, scenario-rows, stock-rows, summary-report};
 
-use super::columns::Column;
-use super::figures::{FourPlaces, IsoDate, TenPlaces, Thousands};
+use figures::{Column, CountCell, FourPlaces, IsoDate, TenPlaces};
 use parameter_file::Summary;
 use parameter_heading::Fault;
 use parameter_text::Question;
 use return_source::Parameters;
 use std::fmt;
+
+// Wide enough for ten places.
+const WIDTH: usize = 14;
 
 // What a file that passes holds, in aligned columns.
 #[derive(Clone, Copy)]
@@ -18,11 +20,17 @@ impl fmt::Display for SummaryReport<'_> {
     ghost output = { λ x. Some (summary-report x.0.now) };
 
     fn fmt<W: fmt::Write>(&self, f: &mut fmt::Formatter<W>) -> fmt::Result {
-        let date = Column(IsoDate(&self.0.heading.date));
+        let date = Column {
+            width: WIDTH,
+            value: IsoDate(&self.0.heading.date),
+        };
         let parameters = &self.0.heading.parameters;
         let scenarios = ScenarioRows(parameters);
-        let step = Column(Thousands(parameters.step));
-        let factor = Column(TenPlaces(parameters.holiday_factor));
+        let step = CountCell(parameters.step);
+        let factor = Column {
+            width: WIDTH,
+            value: TenPlaces(parameters.holiday_factor),
+        };
         let stocks = StockRows(self.0);
         write!(
             f,
@@ -49,12 +57,18 @@ impl fmt::Display for ScenarioRows<'_> {
     fn fmt<W: fmt::Write>(&self, f: &mut fmt::Formatter<W>) -> fmt::Result {
         let historical = &self.0.historical;
         let stress = &self.0.stress;
-        let historical_weight = Column(FourPlaces(historical.weight.ten_thousandths));
-        let stress_weight = Column(FourPlaces(stress.weight.ten_thousandths));
-        let historical_count = Column(Thousands(historical.count));
-        let stress_count = Column(Thousands(stress.count));
-        let historical_tail = Column(Thousands(historical.tail));
-        let stress_tail = Column(Thousands(stress.tail));
+        let historical_weight = Column {
+            width: WIDTH,
+            value: FourPlaces(historical.weight.ten_thousandths),
+        };
+        let stress_weight = Column {
+            width: WIDTH,
+            value: FourPlaces(stress.weight.ten_thousandths),
+        };
+        let historical_count = CountCell(historical.count);
+        let stress_count = CountCell(stress.count);
+        let historical_tail = CountCell(historical.tail);
+        let stress_tail = CountCell(stress.tail);
         write!(
             f,
             "                      historical        stress\n\
@@ -72,9 +86,9 @@ impl fmt::Display for StockRows<'_> {
     ghost output = { λ x. Some (stock-rows x.0.now) };
 
     fn fmt<W: fmt::Write>(&self, f: &mut fmt::Formatter<W>) -> fmt::Result {
-        let portfolio = Column(Thousands(self.0.portfolio_stocks));
-        let flat = Column(Thousands(self.0.flat_stocks));
-        let entitlements = Column(Thousands(self.0.entitlements));
+        let portfolio = CountCell(self.0.portfolio_stocks);
+        let flat = CountCell(self.0.flat_stocks);
+        let entitlements = CountCell(self.0.entitlements);
         write!(
             f,
             "Portfolio stocks  {portfolio}\n\

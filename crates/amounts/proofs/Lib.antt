@@ -1,0 +1,12 @@
+pub mod Whole
+pub mod Sets
+pub mod Tail
+pub mod Keep
+pub mod Round
+pub mod Near
+pub mod Charge
+pub mod Times
+pub mod Close
+pub mod Support
+pub mod Permuted
+pub mod Firsts

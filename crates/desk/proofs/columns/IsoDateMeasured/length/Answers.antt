@@ -1,6 +1,0 @@
-use Rattle.std.proofs.Common.{ℕ, length, decimal, ap, arith}
-use Rattle.desk.proofs.LengthLaws.{length-iso-date}
-use Rattle.desk.proofs.columns.IsoDateMeasured.length.Goals as goal
-
-pub returns : goal.returns
-returns c = omega (arith, c.decimal_length.ensures.value, ap (λ (n : ℕ). length (decimal n)) c.from.ensures, length-iso-date c.args.self.now.0.now)

@@ -1,6 +1,0 @@
-use Rattle.std.proofs.Common.{arith}
-use Rattle.desk.proofs.LengthLaws.{length-pointed}
-use Rattle.desk.proofs.columns.TenPlacesMeasured.length.Goals as goal
-
-pub returns : goal.returns
-returns c = omega (arith, c.decimal_length.ensures.value, length-pointed 10 c.args.self.now.0)

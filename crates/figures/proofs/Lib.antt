@@ -1,0 +1,3 @@
+mod FigureLaws
+mod LengthLaws
+pub mod WriteLaws

@@ -1,0 +1,4 @@
+use Rattle.figures.proofs.numbers.+put_digits.Given as goal
+
+abbrev pub decreases-put_digits : goal.decreases-put_digits
+decreases-put_digits g l = l.digits

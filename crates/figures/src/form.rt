@@ -1,0 +1,6 @@
+// How an answer is printed: for people, or for scripts.
+#[derive(Clone, Copy)]
+pub enum Form {
+    Report,
+    Csv,
+}

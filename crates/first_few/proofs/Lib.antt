@@ -1,0 +1,4 @@
+pub mod Shifts
+pub mod Inserts
+pub mod Kept
+pub mod Offers

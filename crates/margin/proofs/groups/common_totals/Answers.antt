@@ -1,0 +1,67 @@
+use Rattle.std.proofs.Common.{◌≡◌, ℕ, ◌^◌, length, ℤ, pos, unsigned_abs, ap, ◌∙◌, arith, w64, FitsSigned, to_z, of_z}
+use Rattle.std.proofs.lemmas.List.FromFn.{fill_by_all}
+use Rattle.std.proofs.lemmas.Int.{ints, to_z-of_z}
+use Rattle.amounts.specs.Sums.{sum_of, when}
+use Rattle.ledger.specs.declared.terms.Kind.TheVariants.{Stock}
+use Rattle.margin_rules.specs.Portfolio.{scenarios, return_at, rounded_product, is_common}
+use Rattle.margin.specs.Visits.{stock_in}
+use Rattle.margin.specs.Groups.{stock_market, held_stocks}
+use Rattle.margin.proofs.Products.{with_returns, product-small, row-of}
+use Rattle.margin.proofs.Passes.{so_far-none, so_far-some, so_far-all, sum-end}
+use Rattle.margin.proofs.groups.common_totals.Goals.{in-Some, in_default}
+use Rattle.margin.proofs.groups.common_totals.Goals as goal
+
+pub add_returns-requires-clause-value : goal.add_returns-requires-clause-value
+add_returns-requires-clause-value g c =
+    let b = c.requires.small c.in-Some.stock in
+    let e : c.market_of-value.result ≡ stock_market c.args.slots.now c.in-Some.stock = c.market_of-value.ensures.value in
+    let f : FitsSigned w64 c.market_of-value.result = omega (arith, ints, c.market_of-value.ensures.bound) in
+    rw (to_z-of_z w64 c.market_of-value.result f) (omega (arith, ap unsigned_abs e))
+
+pub add_returns-requires-clause-totals : goal.add_returns-requires-clause-totals
+add_returns-requires-clause-totals g c =
+    let m = g.S.ReturnSource.meaning c.args.source.now in
+    let n : length c.loop-i.totals ≡ (scenarios m c.args.set).count = c.loop-i.auto.totals ∙ c.fill.ensures.len ∙ c.requires.count in
+    so_far-all (stock_in Stock) (is_common m c.args.settings.now) (λ j x. rounded_product (stock_market c.args.slots.now x) (return_at (m.returns c.args.set x) j)) (scenarios m c.args.set).count c.args.slots.now c.loop-i.i c.loop-i.totals (2 ^ 62)
+    (omega (arith, c.requires.few)) n c.loop-i.invariant
+
+pub loop-i-preserved : goal.loop-i-preserved
+loop-i-preserved g c =
+    let m = g.S.ReturnSource.meaning c.args.source.now in
+    let law = g.met.S.ReturnSource.lawful c.args.source.now in
+    let p = is_common m c.args.settings.now in
+    let xs = c.args.slots.now in
+    let mv : ℕ → ℤ = stock_market xs in
+    let w = c.args.set in
+    let k = (scenarios m w).count in
+    let ts = c.loop-i.totals in
+    let f : ℕ → ℕ → ℤ = λ j x. rounded_product (mv x) (return_at (m.returns w x) j) in
+    let n : length ts ≡ k = c.loop-i.auto.totals ∙ c.fill.ensures.len ∙ c.requires.count in
+    elim c.match-common_stock.branch [
+      | in-Some a ↦
+          let x = a.in-Some.stock in
+          let v = a.market_of-value.result in
+          let fits : FitsSigned w64 v = omega (arith, ints, a.market_of-value.ensures.bound) in
+          let same : to_z w64 (of_z w64 v) ≡ mv x = to_z-of_z w64 v fits ∙ a.market_of-value.ensures.value in
+          so_far-some (stock_in Stock) p f k xs c.loop-i.i ts c.common_stock.result c.loop-i-test.true c.common_stock.ensures c.loop-i.invariant x c.match-common_stock.totals a.in-Some.is n
+          (a.totals-is ∙ a.add_returns.ensures ∙ ap (λ z. with_returns z (m.returns w x) ts) same)
+          (λ j l. product-small (mv x) (m.returns w x) k j (row-of m law w x) (c.requires.small x))
+      | in_default a ↦ rw a.totals-is (so_far-none (stock_in Stock) p f k xs c.loop-i.i ts c.common_stock.result c.loop-i-test.true c.common_stock.ensures c.loop-i.invariant a.in_default.is)
+    ]
+
+pub returns-clause-value : goal.returns-clause-value
+returns-clause-value g c =
+    let m = g.S.ReturnSource.meaning c.args.source.now in
+    let p = is_common m c.args.settings.now in
+    let xs = c.args.slots.now in
+    let f : ℕ → ℕ → ℤ = λ j x. rounded_product (stock_market xs x) (return_at (m.returns c.args.set x) j) in
+    let n : length c.loop-i.totals ≡ (scenarios m c.args.set).count = c.loop-i.auto.totals ∙ c.fill.ensures.len ∙ c.requires.count in
+    fill_by_all (λ j. sum_of (λ x. when (p x) (f j x)) (held_stocks xs)) c.loop-i.totals (scenarios m c.args.set).count (pos 0) n
+    (λ j h. omega (arith, ints, c.loop-i.invariant.sums j h, sum-end (stock_in Stock) p (f j) xs c.loop-i.i c.loop-i-test.false))
+
+pub returns-clause-bound : goal.returns-clause-bound
+returns-clause-bound g c =
+    let m = g.S.ReturnSource.meaning c.args.source.now in
+    let n : length c.loop-i.totals ≡ (scenarios m c.args.set).count = c.loop-i.auto.totals ∙ c.fill.ensures.len ∙ c.requires.count in
+    so_far-all (stock_in Stock) (is_common m c.args.settings.now) (λ j x. rounded_product (stock_market c.args.slots.now x) (return_at (m.returns c.args.set x) j)) (scenarios m c.args.set).count c.args.slots.now c.loop-i.i c.loop-i.totals 400000000000000
+    (omega (arith, c.requires.few)) n c.loop-i.invariant

@@ -1,0 +1,13 @@
+pub mod Adding
+pub mod Assessing
+pub mod Costs
+pub mod DayNumbers
+pub mod Days
+pub mod Groups
+pub mod Listing
+pub mod Lowest
+pub mod Outcomes
+pub mod Parts
+pub mod Positions
+pub mod Requirement
+pub mod Visits

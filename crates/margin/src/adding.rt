@@ -1,0 +1,62 @@
+// The scenario totals of a group: market value times return, each product rounded off.
+ghost use Rattle.std.specs.Prelude.{◌≡◌, ℕ, ◌+◌, ◌*◌, ◌/◌, ◌^◌, ◌<◌, ◌≤◌, ◌++◌, length, take, drop, replicate, ℤ, pos, ◌+ℤ◌, ◌*ℤ◌, unsigned_abs};
+ghost use Rattle.std.specs.List.{AllByRecursion};
+ghost use Rattle.amounts.specs.Rounding.{round_off};
+ghost use Rattle.margin.specs.Adding.{with_products};
+
+// A return is told in hundred-millionths.
+const RETURN_UNITS: i64 = 100_000_000;
+
+// Hundred-millionths of a dollar as dollars, rounded off.
+fn dollars(n: i64) -> i64
+    requires { unsigned_abs n ≤ 8000000000000000000 }
+    ensures value { result ≡ round_off (10 ^ 8) n }
+    ensures bound { unsigned_abs result ≤ 80000000000 }
+{
+    if n >= 0 {
+        (n + RETURN_UNITS / 2) / RETURN_UNITS
+    } else {
+        (n - RETURN_UNITS / 2) / RETURN_UNITS
+    }
+}
+
+// What a market value gains at a return.
+pub(crate) fn rounded_product(value: i64, ret: i32) -> i64
+    requires value { unsigned_abs value ≤ 20000000000 }
+    requires ret { unsigned_abs ret ≤ 400000000 }
+    ensures value { result ≡ round_off (10 ^ 8) (value *ℤ ret) }
+    ensures bound { unsigned_abs result ≤ 80000000000 }
+{
+    dollars(value * i64::from(ret))
+}
+
+// Adds to each total the rounded product of a market value and the scenario's return.
+pub(crate) fn add(totals: &mut [i64], row: &[i32], value: i64)
+    requires value { unsigned_abs value ≤ 20000000000 }
+    requires returns { AllByRecursion (λ r. unsigned_abs r ≤ 400000000) row.now }
+    requires totals { AllByRecursion (λ t. unsigned_abs t ≤ 2 ^ 62) totals.old }
+    requires room { length row.now ≤ length totals.old }
+    ensures { totals.new ≡ with_products value row.now totals.old }
+{
+    for (i, ret) in row.iter().enumerate() {
+        totals[i] += rounded_product(value, *ret);
+    }
+}
+
+// No gain yet in any scenario.
+pub(crate) fn clear(totals: &mut [i64])
+    ensures { totals.new ≡ replicate (length totals.old) (pos 0) }
+{
+    totals.fill(0);
+}
+
+// Adds to the part of the totals from one scenario on, which is handed on for writing.
+pub(crate) fn add_from(totals: &mut [i64], from: usize, row: &[i32], value: i64)
+    requires value { unsigned_abs value ≤ 20000000000 }
+    requires returns { AllByRecursion (λ r. unsigned_abs r ≤ 400000000) row.now }
+    requires totals { AllByRecursion (λ t. unsigned_abs t ≤ 2 ^ 62) totals.old }
+    requires room { from + length row.now ≤ length totals.old }
+    ensures { totals.new ≡ take from totals.old ++ with_products value row.now (drop from totals.old) }
+{
+    add(&mut totals[from..], row, value);
+}

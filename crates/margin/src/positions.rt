@@ -1,0 +1,94 @@
+// The positions of an account.
+ghost use Rattle.std.specs.Prelude.{◌≡◌, ◌≤◌, true, length, unsigned_abs};
+ghost use Rattle.amounts.specs.Sums.{sum_of};
+ghost use Rattle.ledger.specs.Table.{sound, sound_place};
+ghost use Rattle.margin_rules.specs.Positions.{market_in, mark_in};
+ghost use Rattle.margin.specs.Positions.{part, position};
+
+use ledger::{Instrument, Kind, Place};
+
+// The sums of an instrument's live entries, values in whole dollars.
+#[derive(Clone, Copy)]
+pub struct Position {
+    pub quantity: i64,
+    pub contract_value: i64,
+    pub market_value: i64,
+}
+
+const NO_POSITION: Position = Position {
+    quantity: 0,
+    contract_value: 0,
+    market_value: 0,
+};
+
+// What a place adds to the position of an instrument.
+fn part_of(place: &Place, kind: Kind, stock: u32) -> Position
+    ensures { result ≡ part kind stock place.now }
+{
+    let Place::Live { number: _, entry } = place else {
+        return NO_POSITION;
+    };
+    if !(Instrument { kind, stock }).is(entry.instrument) {
+        return NO_POSITION;
+    }
+    Position {
+        quantity: entry.quantity,
+        contract_value: entry.contract_value,
+        market_value: entry.market_value,
+    }
+}
+
+// The position of an instrument, all zeros where it is not held.
+pub(crate) fn position_of(slots: &[Place], kind: Kind, stock: u32) -> Position
+    requires few { length slots.now ≤ 4096 }
+    requires sound { sound slots.now ≡ true }
+    ensures value { result ≡ position kind stock slots.now }
+    ensures quantity { unsigned_abs result.quantity ≤ 81920000000000 }
+    ensures contract_value { unsigned_abs result.contract_value ≤ 81920000000000 }
+    ensures market_value { unsigned_abs result.market_value ≤ 81920000000000 }
+{
+    let mut sums = NO_POSITION;
+    for place in slots {
+        let part = part_of(place, kind, stock);
+        sums.quantity += part.quantity;
+        sums.contract_value += part.contract_value;
+        sums.market_value += part.market_value;
+    }
+    sums
+}
+
+// The market value of a position.
+pub(crate) fn market_of(slots: &[Place], kind: Kind, stock: u32) -> i64
+    requires few { length slots.now ≤ 4096 }
+    requires sound { sound slots.now ≡ true }
+    ensures value { result ≡ sum_of (market_in kind stock) slots.now }
+    ensures bound { unsigned_abs result ≤ 81920000000000 }
+{
+    position_of(slots, kind, stock).market_value
+}
+
+// What a place adds to the mark.
+fn mark_in(place: &Place) -> i64
+    requires { sound_place place.now ≡ true }
+    ensures value { result ≡ mark_in place.now }
+    ensures bound { unsigned_abs result ≤ 40000000000 }
+{
+    match place {
+        Place::Live { number: _, entry } => entry.market_value - entry.contract_value,
+        Place::Free | Place::Cancelled { number: _ } => 0,
+    }
+}
+
+// All market value less all contract value.
+pub(crate) fn mark_of(slots: &[Place]) -> i64
+    requires few { length slots.now ≤ 4096 }
+    requires sound { sound slots.now ≡ true }
+    ensures value { result ≡ sum_of mark_in slots.now }
+    ensures bound { unsigned_abs result ≤ 163840000000000 }
+{
+    let mut sum: i64 = 0;
+    for place in slots {
+        sum += mark_in(place);
+    }
+    sum
+}

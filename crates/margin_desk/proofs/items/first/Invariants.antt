@@ -1,0 +1,10 @@
+use Rattle.std.proofs.Common.{◌≡◌, length}
+use Rattle.margin_desk.specs.Words.{texts}
+use Rattle.margin_desk.specs.Items.{items, items_left, words_left, of_kind}
+use Rattle.margin_desk.proofs.items.first.Given as goal
+
+abbrev pub invariant-loop-item : goal.invariant-loop-item
+invariant-loop-item l = of_kind l.kind (items_left l.left) ≡ of_kind l.kind (items (texts l.words))
+
+abbrev pub decreases-loop-item : goal.decreases-loop-item
+decreases-loop-item l = length (words_left l.left)

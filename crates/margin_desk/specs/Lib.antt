@@ -1,0 +1,7 @@
+pub mod Words
+pub mod Usage
+pub mod Items
+pub mod Requests
+pub mod Refusals
+pub mod Answers
+pub mod Assessments

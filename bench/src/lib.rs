@@ -1,6 +1,8 @@
-//! A second implementation of the parameter file's check, in plain Rust, and what it is compared by.
+//! A second implementation of the parameter file's check and of the margin engine, in plain Rust, and what the proved
+//! programs are compared with it by: damaged files, random days, times.
 //!
-//! The rules it follows are in `docs/RULES.md`. Nothing here shares code with the proved crates.
+//! The rules it follows are in `docs/`: `RULES.md` for the check, `SOURCES.md`, `ACCOUNT.md` and `MARGIN.md` for the engine,
+//! `PROGRAMS.md` for both command lines. Nothing here shares code with the proved crates.
 
 pub mod cases;
 pub mod check;

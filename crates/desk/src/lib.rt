@@ -1,4 +1,4 @@
-// What the programs share: their arguments, and the texts that they print.
+// The arguments of the file check, and the texts that it prints.
 #![tactic(auto)]
 
 mod arguments;

@@ -1,5 +1,5 @@
 // The scenario totals of a group: market value times return, each product rounded off.
-ghost use Rattle.std.specs.Prelude.{◌≡◌, ℕ, ◌+◌, ◌*◌, ◌/◌, ◌^◌, ◌<◌, ◌≤◌, ◌++◌, length, take, drop, replicate, ℤ, pos, ◌+ℤ◌, ◌*ℤ◌, unsigned_abs};
+ghost use Rattle.std.specs.Prelude.{◌≡◌, ℕ, ◌+◌, ◌*◌, ◌/◌, ◌^◌, ◌<◌, ◌≤◌, length, ℤ, pos, ◌+ℤ◌, ◌*ℤ◌, unsigned_abs};
 ghost use Rattle.std.specs.List.{AllByRecursion};
 ghost use Rattle.amounts.specs.Rounding.{round_off};
 ghost use Rattle.margin.specs.Adding.{with_products};
@@ -41,22 +41,4 @@ pub(crate) fn add(totals: &mut [i64], row: &[i32], value: i64)
     for (i, ret) in row.iter().enumerate() {
         totals[i] += rounded_product(value, *ret);
     }
-}
-
-// No gain yet in any scenario.
-pub(crate) fn clear(totals: &mut [i64])
-    ensures { totals.new ≡ replicate (length totals.old) (pos 0) }
-{
-    totals.fill(0);
-}
-
-// Adds to the part of the totals from one scenario on, which is handed on for writing.
-pub(crate) fn add_from(totals: &mut [i64], from: usize, row: &[i32], value: i64)
-    requires value { unsigned_abs value ≤ 20000000000 }
-    requires returns { AllByRecursion (λ r. unsigned_abs r ≤ 400000000) row.now }
-    requires totals { AllByRecursion (λ t. unsigned_abs t ≤ 2 ^ 62) totals.old }
-    requires room { from + length row.now ≤ length totals.old }
-    ensures { totals.new ≡ take from totals.old ++ with_products value row.now (drop from totals.old) }
-{
-    add(&mut totals[from..], row, value);
 }

@@ -3,7 +3,6 @@ ghost use Rattle.std.specs.Prelude.{◌≡◌, ℕ, ◌<◌, ◌≤◌, true, le
 ghost use Rattle.std.specs.List.{AllByRecursion};
 ghost use Rattle.amounts.specs.Sums.{sum_of, when};
 ghost use Rattle.amounts.specs.Tails.{tail_sum};
-ghost use Rattle.ledger.specs.Settings.{is_ipo};
 ghost use Rattle.ledger.specs.Table.{sound};
 ghost use Rattle.margin_rules.specs.Positions.{all_stocks};
 ghost use Rattle.margin_rules.specs.Portfolio.{scenarios, rounded_product, is_common, is_own, common_totals, own_totals, tails_of};
@@ -19,13 +18,6 @@ use ledger::{Kind, Place, Settings};
 use margin_rules::Outcome;
 use return_source::{ReturnSource, ScenarioSet};
 
-// Is a stock one of the IPO stocks?
-fn is_ipo(settings: &Settings, stock: u32) -> bool
-    ensures { result ≡ is_ipo settings.now stock }
-{
-    settings.ipo.iter().any(|x| *x == stock)
-}
-
 // The stock visited at a place, where it is one of the common group.
 fn common_stock<S: ReturnSource>(
     slots: &[Place],
@@ -37,7 +29,7 @@ fn common_stock<S: ReturnSource>(
     ensures { result ≡ only (is_common (S.meaning source.now) settings.now) (visited_at (stock_in Kind.Stock) slots.now i) }
 {
     let stock = stock_of(&slots[i], Kind::Stock)?;
-    if !is_ipo(settings, stock) && in_portfolio(source, stock) {
+    if !settings.is_ipo(stock) && in_portfolio(source, stock) {
         last_stock(slots, Kind::Stock, i)
     } else {
         None
@@ -55,7 +47,7 @@ fn own_stock<S: ReturnSource>(
     ensures { result ≡ only (is_own (S.meaning source.now) settings.now) (visited_at (stock_in Kind.Stock) slots.now i) }
 {
     let stock = stock_of(&slots[i], Kind::Stock)?;
-    if is_ipo(settings, stock) && in_portfolio(source, stock) {
+    if settings.is_ipo(stock) && in_portfolio(source, stock) {
         last_stock(slots, Kind::Stock, i)
     } else {
         None

@@ -1,6 +1,8 @@
 // The posts and cancels of a day, hostile orders of them, and each question that refuses one.
-use super::{OpenAccount, check_open, open};
-use ledger::{EntryRefusal, GivenAmounts, Place, Posting, Settings};
+use super::{OpenAccount, Request, check_open, day, open};
+use fallback_source::FallbackSource;
+use ledger::{EntryRefusal, GivenAmounts, Kind, Place, Posting, Settings};
+use margin_rules::{Assessment, Holding, Outcome};
 
 fn settings() -> Settings {
     Settings {
@@ -145,4 +147,79 @@ fn openings(rt: HostRuntime) {
     assert_eq!(rt; opening(1, &other), 0);
     other.given.ad_hoc = 1_000_000_000_001;
     assert_eq!(rt; opening(1, &other), 12, "an add-on beyond the most");
+}
+
+const NO_OUTCOME: Outcome = Outcome {
+    total: 7,
+    scenario: 7,
+};
+
+const NO_HOLDING: Holding = Holding {
+    kind: Kind::Stock,
+    stock: 0,
+    market_value: 0,
+};
+
+// A whole day over one rate of 0.06, and what it leaves in the first places of the sheets and the list.
+fn whole_day(
+    places: &mut [Place],
+    requests: &[Request],
+) -> Result<(Assessment, bool, Holding), u32> {
+    let Ok(source) = FallbackSource::new(600) else {
+        return Err(9);
+    };
+    let mut totals = [7i64; 2];
+    let mut row = [7i32; 1];
+    let mut tail = [NO_OUTCOME; 1];
+    let mut holdings = [NO_HOLDING; 2];
+    let mut plain = settings();
+    plain.given.liquidation = 0;
+    plain.given.position_limit = 0;
+    plain.credit = 0;
+    match day(
+        places,
+        plain,
+        requests,
+        &source,
+        &mut totals,
+        &mut row,
+        &mut tail,
+        &mut holdings,
+    ) {
+        Ok(figures) => Ok((
+            figures,
+            totals[0] == 0 && row[0] == 0 && tail[0].total == 0,
+            holdings[0],
+        )),
+        Err(refusal) => Err(refusal.number()),
+    }
+}
+
+#[test]
+fn a_whole_day_over_the_fallback(rt: HostRuntime) {
+    let requests = [
+        Request::Post(posting(1, 0, 5, 1_000_000)),
+        Request::Post(posting(2, 0, 700, -400_000)),
+        Request::Assess,
+        Request::Post(posting(3, 0, 700, -5_000_000)),
+        Request::Cancel(3),
+        Request::Post(posting(3, 0, 700, -5_000_000)),
+    ];
+    let mut table = [Place::Free; 4];
+    let Ok((figures, cleared, first)) = whole_day(&mut table, &requests) else {
+        panic!(rt; "the day is refused");
+    };
+    assert_eq!(rt; figures.flat_rate, 60_000);
+    assert_eq!(rt; figures.rounded, 250_000);
+    assert_eq!(rt; figures.positions, 0);
+    assert_eq!(rt; cleared, true, "the sheets are cleared");
+    assert_eq!(rt; (first.stock, first.market_value), (5, 1_000_000));
+    assert_eq!(rt;
+        table[2].number(),
+        3,
+        "the cancelled number keeps its place"
+    );
+    assert_eq!(rt; whole_day(&mut table[0..0], &requests).err(), Some(11));
+    let missing = [Request::Post(posting(1, 2, 5, 1))];
+    assert_eq!(rt; whole_day(&mut table, &missing).err(), Some(31));
 }

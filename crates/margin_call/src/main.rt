@@ -1,7 +1,9 @@
 // Works out the margin requirement of a settlement account from its journals, and prints it or why it is refused.
 #![tactic(auto)]
 
-ghost use Rattle.std.specs.Prelude.{◌≡◌, IfOk, vec_len};
+ghost use Rattle.std.specs.Prelude.{◌≡◌, ◌+◌, IfOk, OnOk, vec_len, length, take, max, min};
+ghost use Rattle.ledger.specs.Calls.{after};
+ghost use Rattle.margin_call.specs.Applied.{call_made, answer_made, places_after, journal_calls};
 
 use desk::{CsvFault, FaultReport};
 use fallback_source::FallbackSource;
@@ -212,12 +214,15 @@ fn apply_journal(
     text: &[u8],
     account: &mut OpenAccount<'_>,
     counts: &mut AnswerCounts,
-) -> Result<(), NotDone> {
+) -> Result<(), NotDone>
+    ensures places { OnOk result (take account.new.used account.new.table.now ≡ places_after (length account.old.table.now) (journal_calls text.now) (take account.old.used account.old.table.now)) }
+    ensures room { length account.new.table.now ≡ length account.old.table.now }
+    ensures settings { account.new.settings ≡ account.old.settings }
+{
     let mut calls = Calls::new(text);
-    for line in 1..usize::MAX {
-        let Some(call) = calls.next_call() else {
-            break;
-        };
+    let mut line: usize = 0;
+    while let Some(call) = calls.next_call() {
+        line = line.saturating_add(1);
         let answer = answer(account, call);
         counts.count(&answer);
         if wanted.trace {
@@ -235,7 +240,13 @@ fn apply_journal(
     Ok(())
 }
 
-fn answer(account: &mut OpenAccount<'_>, call: JournalCall) -> Result<u32, EntryRefusal> {
+// Makes one call of a journal.
+fn answer(account: &mut OpenAccount<'_>, call: JournalCall) -> Result<u32, EntryRefusal>
+    ensures answer { result ≡ answer_made (length account.old.table.now) call (take account.old.used account.old.table.now) }
+    ensures places { take account.new.used account.new.table.now ≡ after (length account.old.table.now) (call_made call) (take account.old.used account.old.table.now) }
+    ensures room { length account.new.table.now ≡ length account.old.table.now }
+    ensures settings { account.new.settings ≡ account.old.settings }
+{
     match call {
         JournalCall::Post(posting) => account.post(posting),
         JournalCall::Cancel { number } => account.cancel(number),
@@ -264,7 +275,12 @@ impl Sheets {
         source: &S,
         holdings: usize,
         heap: Global,
-    ) -> Result<Sheets, AllocError> {
+    ) -> Result<Sheets, AllocError>
+        ensures totals { IfOk result (λ s. vec_len s.totals ≡ (S.meaning source.now).parameters.historical.count + (S.meaning source.now).parameters.stress.count) }
+        ensures row { IfOk result (λ s. vec_len s.row ≡ max (S.meaning source.now).parameters.historical.count (S.meaning source.now).parameters.stress.count) }
+        ensures tail { IfOk result (λ s. vec_len s.tail ≡ max (S.meaning source.now).parameters.historical.tail (S.meaning source.now).parameters.stress.tail) }
+        ensures holdings { IfOk result (λ s. vec_len s.holdings ≡ min holdings 65) }
+    {
         let parameters = source.parameters();
         let historical = parameters.historical;
         let stress = parameters.stress;

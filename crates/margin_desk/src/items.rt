@@ -39,9 +39,9 @@ impl<'a> Items<'a> {
         Some(word)
     }
 
-    // The next item, or none where all were given.
+    // The next item, or none where all were given; from then on there is none.
     pub(crate) fn next_item(&mut self) -> Option<Item<'a>>
-        ensures item { MatchOption result (items_left self.old ≡ []) (λ item. items_left self.old ≡ seen item ∷ items_left self.new) }
+        ensures item { MatchOption result ((items_left self.old ≡ []) × (items_left self.new ≡ [])) (λ item. items_left self.old ≡ seen item ∷ items_left self.new) }
         ensures shorter { IfSome result (λ _. length (words_left self.new) < length (words_left self.old)) }
     {
         let word = self.next_word()?;
@@ -102,9 +102,9 @@ impl<'a> Journals<'a> {
         }
     }
 
-    // The next name, or none where all were given.
+    // The next name, or none where all were given; from then on there is none.
     pub fn next_name(&mut self) -> Option<&'a str>
-        ensures { MatchOption result (journals_left self.old ≡ []) (λ name. journals_left self.old ≡ name.now ∷ journals_left self.new) }
+        ensures { MatchOption result ((journals_left self.old ≡ []) × (journals_left self.new ≡ [])) (λ name. journals_left self.old ≡ name.now ∷ journals_left self.new) }
     {
         while let Some(item) = self.left.next_item() {
             if item.kind.is(Kind::Journal) {

@@ -104,11 +104,16 @@ impl<'a> Calls<'a> {
         }
     }
 
-    // The next call, or none where all were given.
+    // The next call, or none where all were given; from then on there is none.
     pub fn next_call(&mut self) -> Option<JournalCall>
-        ensures { MatchOption result (calls_left self.old ≡ []) (λ call. calls_left self.old ≡ call ∷ calls_left self.new) }
+        ensures { MatchOption result ((calls_left self.old ≡ []) × (calls_left self.new ≡ [])) (λ call. calls_left self.old ≡ call ∷ calls_left self.new) }
     {
-        let line = self.lines.next_line()?;
-        call(line)
+        if let Some(line) = self.lines.next_line() {
+            if let Some(call) = call(line) {
+                return Some(call);
+            }
+        }
+        self.lines = Lines::new(b"");
+        None
     }
 }

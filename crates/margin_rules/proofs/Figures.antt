@@ -14,7 +14,8 @@ use Rattle.margin_rules.specs.Charges.{all_rates, flat_margin}
 use Rattle.margin_rules.specs.Requirement.{rounded_margin, figures_of}
 use Rattle.margin_rules.specs.Unrounded.{all_figures, unrounded_of}
 use Rattle.margin_rules.specs.Laws.{book_after}
-use Rattle.margin_rules.specs.Figures.{WorkedFigures, day_meaning, day_settings, day_calls, day_answer, single_rate, two_sides, plain_settings}
+use Rattle.fallback_source.specs.Fallback.{fallback_meaning}
+use Rattle.margin_rules.specs.Figures.{WorkedFigures, day_meaning, day_settings, day_calls, day_answer, two_sides, plain_settings}
 use Rattle.margin_rules.proofs.Closeness.{held_alone}
 use Rattle.margin_rules.proofs.Few.{TailsWithin, Holds, stock_in, rate_in, few_figures, few_unrounded}
 
@@ -95,7 +96,7 @@ side_within x (inl e) = stock_in x (omega arith) (omega arith)
 side_within x (inr (inl e)) = stock_in x (omega arith) (omega arith)
 side_within x (inr (inr i)) = absurd i
 
-side_holds : Holds (single_rate 600) side_stocks (600 ∷ []) side_book
+side_holds : Holds (fallback_meaning 600) side_stocks (600 ∷ []) side_book
 side_holds =
     record {
       stocks_apart = search rules;
@@ -106,21 +107,21 @@ side_holds =
       rates = λ x q i f e. inl (rate_one (nat_le 1 x && nat_le x 99999) 600 q e);
     }
 
-side_tails : TailsWithin (single_rate 600)
+side_tails : TailsWithin (fallback_meaning 600)
 side_tails = record { at = within }
   where
-    within : (w : ScenarioSet) → (scenarios (single_rate 600) w).tail ≤ (scenarios (single_rate 600) w).count
+    within : (w : ScenarioSet) → (scenarios (fallback_meaning 600) w).tail ≤ (scenarios (fallback_meaning 600) w).count
     within Historical = lit≤ tt
     within Stress = lit≤ tt
 
-side_figures : figures_of (single_rate 600) plain_settings side_stocks (600 ∷ []) side_book ≡ figures_of (single_rate 600) plain_settings all_stocks all_rates side_book
-side_figures = few_figures (single_rate 600) side_tails plain_settings side_book (held_alone (runs 16 two_sides [])) side_stocks (600 ∷ []) side_holds
+side_figures : figures_of (fallback_meaning 600) plain_settings side_stocks (600 ∷ []) side_book ≡ figures_of (fallback_meaning 600) plain_settings all_stocks all_rates side_book
+side_figures = few_figures (fallback_meaning 600) side_tails plain_settings side_book (held_alone (runs 16 two_sides [])) side_stocks (600 ∷ []) side_holds
 
-side_flat : flat_margin (single_rate 600) plain_settings side_stocks (600 ∷ []) (side_book.market Stock) ≡ pos 60000
+side_flat : flat_margin (fallback_meaning 600) plain_settings side_stocks (600 ∷ []) (side_book.market Stock) ≡ pos 60000
 unfolding all_figures
 side_flat = refl
 
-side_rounded : rounded_margin (single_rate 600) plain_settings side_stocks (600 ∷ []) side_book ≡ pos 250000
+side_rounded : rounded_margin (fallback_meaning 600) plain_settings side_stocks (600 ∷ []) side_book ≡ pos 250000
 unfolding all_figures
 side_rounded = refl
 
@@ -146,6 +147,6 @@ worked_figures =
       gain_is_negative = refl;
       day_figures = sym (few_figures day_meaning day_tails day_settings day_book (held_alone (runs 16 day_calls [])) day_stocks (1200 ∷ []) day_holds) ∙ day_rounded;
       day_unrounded = sym (few_unrounded day_meaning day_tails day_settings day_book (held_alone (runs 16 day_calls [])) day_stocks (1200 ∷ []) day_holds) ∙ day_few;
-      single_flat = sym (flat_is (single_rate 600) plain_settings all_stocks all_rates side_book) ∙ ap (λ a. a.flat_rate) (sym side_figures) ∙ flat_is (single_rate 600) plain_settings side_stocks (600 ∷ []) side_book ∙ side_flat;
-      single_rounded = sym (rounded_is (single_rate 600) plain_settings all_stocks all_rates side_book) ∙ ap (λ a. a.rounded) (sym side_figures) ∙ rounded_is (single_rate 600) plain_settings side_stocks (600 ∷ []) side_book ∙ side_rounded;
+      single_flat = sym (flat_is (fallback_meaning 600) plain_settings all_stocks all_rates side_book) ∙ ap (λ a. a.flat_rate) (sym side_figures) ∙ flat_is (fallback_meaning 600) plain_settings side_stocks (600 ∷ []) side_book ∙ side_flat;
+      single_rounded = sym (rounded_is (fallback_meaning 600) plain_settings all_stocks all_rates side_book) ∙ ap (λ a. a.rounded) (sym side_figures) ∙ rounded_is (fallback_meaning 600) plain_settings side_stocks (600 ∷ []) side_book ∙ side_rounded;
     }

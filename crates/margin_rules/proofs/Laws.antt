@@ -1,4 +1,6 @@
 -- The laws of an account and the worked figures, for the contracts that carry them.
+use Rattle.amounts.proofs.Tail.{tail-bound-holds}
+use Rattle.amounts.proofs.Round.{round-off-near, round-up-near}
 use Rattle.margin_rules.specs.Laws.{AccountLaws}
 use Rattle.margin_rules.proofs.Order.{order_does_not_matter}
 use Rattle.margin_rules.proofs.Joining.{joining_never_costs_more}
@@ -6,4 +8,12 @@ use Rattle.margin_rules.proofs.Closeness.{rounding_stays_close}
 pub use Rattle.margin_rules.proofs.Figures.{worked_figures}
 
 pub account_laws : AccountLaws
-account_laws = record { order = order_does_not_matter; joining = joining_never_costs_more; rounding = rounding_stays_close }
+account_laws =
+    record {
+      order = order_does_not_matter;
+      joining = joining_never_costs_more;
+      rounding = rounding_stays_close;
+      least = tail-bound-holds;
+      rounded_off = round-off-near;
+      rounded_up = round-up-near;
+    }

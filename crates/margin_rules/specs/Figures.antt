@@ -8,6 +8,7 @@ use Rattle.return_source.specs.declared.terms.Scenarios.{Scenarios}
 use Rattle.return_source.specs.declared.terms.ScenarioSet.{ScenarioSet}
 use Rattle.return_source.specs.declared.terms.ScenarioSet.TheVariants.{Historical, Stress}
 use Rattle.return_source.specs.Meaning.{Meaning}
+use Rattle.fallback_source.specs.Fallback.{fallback_meaning}
 use Rattle.ledger.specs.declared.terms.Kind.TheVariants.{Stock}
 use Rattle.ledger.specs.declared.terms.Settings.{Settings}
 use Rattle.ledger.specs.declared.terms.GivenAmounts.{GivenAmounts}
@@ -113,16 +114,6 @@ day_answer =
 
 -- ---- one rate for every stock
 
--- every stock stands in the flat tier at one rate, given in ten-thousandths
-abbrev pub single_rate : ℕ → Meaning
-single_rate q =
-    record {
-      parameters = record { historical = scenarios_of 10000 1 1; stress = scenarios_of 0 1 1; step = 250000; holiday_factor = 0 };
-      returns = λ w x. None;
-      rate = λ x. cond (nat_le 1 x && nat_le x 99999) (Some q) None;
-      entitlement = no_entitlement;
-    }
-
 -- one stock long at 1,000,000, another short at 400,000
 abbrev pub two_sides : List Call
 two_sides =
@@ -148,5 +139,5 @@ pub record WorkedFigures : Type 0 where
   -- the day's unrounded total, 2,222.59018051 over the scale, which is 10^22 times both tail counts
   pub day_unrounded : unrounded_after day_meaning day_settings 16 day_calls ≡ pos (222259018051 * 10 ^ 14 * 4)
   -- every stock at the rate 0.06
-  pub single_flat : flat_margin (single_rate 600) plain_settings all_stocks all_rates ((book_after 16 two_sides).market Stock) ≡ pos 60000
-  pub single_rounded : rounded_margin (single_rate 600) plain_settings all_stocks all_rates (book_after 16 two_sides) ≡ pos 250000
+  pub single_flat : flat_margin (fallback_meaning 600) plain_settings all_stocks all_rates ((book_after 16 two_sides).market Stock) ≡ pos 60000
+  pub single_rounded : rounded_margin (fallback_meaning 600) plain_settings all_stocks all_rates (book_after 16 two_sides) ≡ pos 250000

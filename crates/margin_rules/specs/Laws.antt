@@ -1,7 +1,10 @@
 -- The laws of an account, over whole runs of calls upon it and every lawful source: the order and repeats of its posts and
--- cancels do not count, joining two accounts never costs more, and rounding moves the total by little. Assumes nothing.
+-- cancels do not count, joining two accounts never costs more, and rounding moves the total by little; and what a tail and the
+-- two roundings are. Assumes nothing.
 use Rattle.std.specs.Prelude.{◌≡◌, ◌≢◌, ℕ, ◌+◌, List, [], ◌++◌, ℤ, pos, ◌+ℤ◌, ◌*ℤ◌, ◌≤ℤ◌, Ok, Err, Result}
 use Rattle.std.specs.List.Sorted.{IsPermutation}
+use Rattle.amounts.specs.Tails.{TailIsLeast}
+use Rattle.amounts.specs.Rounding.{RoundOffIsNear, RoundUpIsNear}
 use Rattle.return_source.specs.Meaning.{Meaning}
 use Rattle.return_source.specs.Lawful.{Lawful}
 use Rattle.ledger.specs.declared.terms.Settings.{Settings}
@@ -77,3 +80,6 @@ pub record AccountLaws : Type 0 where
   pub order : OrderDoesNotCount
   pub joining : JoiningNeverCostsMore
   pub rounding : RoundingStaysClose
+  pub least : TailIsLeast
+  pub rounded_off : RoundOffIsNear
+  pub rounded_up : RoundUpIsNear

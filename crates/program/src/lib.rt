@@ -1,7 +1,9 @@
 // What the programs share at their edges: the words that they are given, the files that they read, and what they say.
 #![tactic(auto)]
 
-ghost use Rattle.std.specs.Prelude.{◌≡◌, ◌+◌, ◌≤◌, vec_len, MatchResult};
+ghost use Rattle.std.specs.Prelude.{◌≡◌, ◌+◌, ◌≤◌, vec_len, MatchResult, OnOk};
+ghost use Rattle.std.specs.Io.{StartsWith, appended_bytes};
+ghost use Rattle.std.specs.Io.KnownBytes.{Consumes};
 
 use std::fmt::Display;
 use std::fs::File;
@@ -37,7 +39,9 @@ pub fn front_of(rt: &HostRuntime, path: &str, most: usize) -> io::Result<Vec<u8>
 
 // Reads one part more, and answers its length, which is 0 at the end of the file.
 fn read_part<R: Read>(file: &mut R, bytes: &mut Vec<u8>) -> io::Result<usize>
-    ensures { MatchResult result (λ n. vec_len bytes.new ≡ vec_len bytes.old + n) (λ _. vec_len bytes.old ≤ vec_len bytes.new) }
+    ensures length { MatchResult result (λ n. vec_len bytes.new ≡ vec_len bytes.old + n) (λ _. vec_len bytes.old ≤ vec_len bytes.new) }
+    ensures kept { StartsWith bytes.new.items bytes.old.items }
+    ensures read { OnOk result (Consumes (R.remaining file.old) (R.remaining file.new) (appended_bytes bytes.old.items bytes.new.items)) }
 {
     let start = bytes.len();
     bytes.resize(start + PART_BYTES, 0)?;

@@ -1,42 +1,13 @@
 #!/usr/bin/env bash
 # Tries the exit statuses and messages of the built program check_file.
 # Usage: scripts/exit_status.sh [PROGRAM]     (default: crates/check_file/out/check_file)
-# Prints a line for each case and ends 'N passed, M failed'.
+# Prints a line for each failed case and ends 'N passed, M failed'.
 set -u
 root=$(cd "$(dirname "$0")/.." && pwd)
 program=${1:-$root/crates/check_file/out/check_file}
 sample=$root/samples/rpf01.csv
 worked_day=$root/samples/worked_day.csv
-seconds_at_most=120
-
-if [ ! -x "$program" ]; then
-    echo "$program is not there: build it first (rt run in crates/check_file)" >&2
-    exit 1
-fi
-folder=$(mktemp -d)
-trap 'rm -rf "$folder"' EXIT
-passed=0
-failed=0
-
-# answer NAME OK: counts a case and prints its line.
-answer() {
-    if [ "$2" = yes ]; then
-        passed=$((passed + 1))
-        echo "ok      $1"
-    else
-        failed=$((failed + 1))
-        echo "FAILED  $1"
-        echo "        status $status"
-        sed 's/^/        stdout: /' "$folder/stdout" | head -5
-        sed 's/^/        stderr: /' "$folder/stderr" | head -5
-    fi
-}
-
-# run ARGUMENT..: one run of the program; leaves status, stdout and stderr.
-run() {
-    timeout "$seconds_at_most" "$program" "$@" >"$folder/stdout" 2>"$folder/stderr" </dev/null
-    status=$?
-}
+. "$root/scripts/trials.sh"
 
 # not_done NAME ARGUMENT..: the job cannot be done: status 1, a message on standard error, nothing on standard output.
 not_done() {

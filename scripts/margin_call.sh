@@ -8,35 +8,7 @@ program=${1:-$root/crates/margin_call/out/margin_call}
 rpf=$root/samples/worked_day.csv
 settings=$root/samples/worked_day_settings.csv
 journal=$root/samples/worked_day_journal.csv
-seconds_at_most=120
-
-if [ ! -x "$program" ]; then
-    echo "$program is not there: build it first" >&2
-    exit 1
-fi
-folder=$(mktemp -d)
-trap 'rm -rf "$folder"' EXIT
-passed=0
-failed=0
-
-# answer NAME OK: counts a case, and prints it where it failed.
-answer() {
-    if [ "$2" = yes ]; then
-        passed=$((passed + 1))
-    else
-        failed=$((failed + 1))
-        echo "FAILED  $1"
-        echo "        status $status"
-        sed 's/^/        stdout: /' "$folder/stdout" | head -5
-        sed 's/^/        stderr: /' "$folder/stderr" | head -5
-    fi
-}
-
-# run ARGUMENT..: one run of the program; leaves status, stdout and stderr.
-run() {
-    timeout "$seconds_at_most" "$program" "$@" >"$folder/stdout" 2>"$folder/stderr" </dev/null
-    status=$?
-}
+. "$root/scripts/trials.sh"
 
 # not_done NAME WORD ARGUMENT..: status 1, nothing on standard output, and the word in the message.
 not_done() {

@@ -200,5 +200,20 @@ ends "gross market value beyond" 1 "refused,32" "${file_day[@]}" --settings "$se
 : >"$folder/empty.csv"
 ends "a parameter file that is refused" 1 "refused,1,0" --csv --trace --rpf "$folder/empty.csv" --settings "$settings" "$journal"
 
+# Journals are applied in the order given, each one: a post that comes late does not revive its entry.
+printf 'post,9,0,11,1,100,100\n' >"$folder/post.csv"
+printf 'cancel,9\n' >"$folder/cancel.csv"
+# traced NAME LINES JOURNAL..: the first lines on standard output, one for each journal.
+traced() {
+    local name=$1 lines=$2 ok=no
+    shift 2
+    run "${file_day[@]}" --trace --settings "$settings" "$@"
+    if [ "$status" = 0 ] && [ "$(head -n $# "$folder/stdout")" = "$lines" ]; then ok=yes; fi
+    answer "$name" "$ok"
+}
+traced "a post and then its cancel" $'answer,1,1,ok,1\nanswer,2,1,ok,0' "$folder/post.csv" "$folder/cancel.csv"
+traced "a cancel and then its post" $'answer,1,1,ok,0\nanswer,2,1,refused,24' "$folder/cancel.csv" "$folder/post.csv"
+traced "a journal synced again" $'answer,1,1,ok,1\nanswer,2,1,ok,0\nanswer,3,1,refused,24' "$folder/post.csv" "$folder/cancel.csv" "$folder/post.csv"
+
 echo "$passed passed, $failed failed"
 [ "$failed" = 0 ]

@@ -29,15 +29,15 @@ abbrev pub known : Text → Bool
 known w = bytes_eq w (codes "--csv") || bytes_eq w (codes "--help")
 
 -- whether a word is of a kind: one of the two options, another option, or a file
-abbrev pub is-of : Kind → Text → Bool
-is-of kind.Csv w = bytes_eq w (codes "--csv")
-is-of kind.Help w = bytes_eq w (codes "--help")
-is-of kind.Unknown w = dashed w && not (known w)
-is-of kind.File w = not (dashed w)
+abbrev pub is_of : Kind → Text → Bool
+is_of kind.Csv w = bytes_eq w (codes "--csv")
+is_of kind.Help w = bytes_eq w (codes "--help")
+is_of kind.Unknown w = dashed w && not (known w)
+is_of kind.File w = not (dashed w)
 
 -- the words of a kind, in their order
-abbrev pub of-kind : Kind → List Text → List Text
-of-kind k words = filter (is-of k) words
+abbrev pub of_kind : Kind → List Text → List Text
+of_kind k words = filter (is_of k) words
 
 -- the first of some words
 abbrev pub first_of : List Text → Option Text
@@ -51,41 +51,41 @@ pub data Asked : Type 0 where
 
 -- the faults, in the order in which they are told
 pub data Wrong : Type 0 where
-  unknown-option : Text → Wrong
-  option-twice : Text → Wrong
-  two-files : Wrong
-  no-file : Wrong
+  unknown_option : Text → Wrong
+  option_twice : Text → Wrong
+  two_files : Wrong
+  no_file : Wrong
 
 -- a file, under --csv or not
-abbrev pub checked-by : ℕ → List Text → Result Asked Wrong
-checked-by csv [] = Err no-file
-checked-by csv (file ∷ files) = Ok (check (cond (csv == 1) Csv Report) file)
+abbrev pub checked_by : ℕ → List Text → Result Asked Wrong
+checked_by csv [] = Err no_file
+checked_by csv (file ∷ files) = Ok (check (cond (csv == 1) Csv Report) file)
 
 -- from the unknown options, how often --csv and --help are given, and the files
 abbrev pub asked_by : List Text → ℕ → ℕ → List Text → Result Asked Wrong
-asked_by (option ∷ options) csv helps files = Err (unknown-option option)
+asked_by (option ∷ options) csv helps files = Err (unknown_option option)
 asked_by [] csv helps files =
-    cond (nat_lt 1 csv) (Err (option-twice (codes "--csv")))
-    (cond (nat_lt 1 helps) (Err (option-twice (codes "--help")))
-    (cond (nat_lt 1 (length files)) (Err two-files)
-    (cond (helps == 1) (Ok help) (checked-by csv files))))
+    cond (nat_lt 1 csv) (Err (option_twice (codes "--csv")))
+    (cond (nat_lt 1 helps) (Err (option_twice (codes "--help")))
+    (cond (nat_lt 1 (length files)) (Err two_files)
+    (cond (helps == 1) (Ok help) (checked_by csv files))))
 
 -- the request that the words make
-abbrev pub request-of : List Text → Result Asked Wrong
-request-of words = asked_by (of-kind kind.Unknown words) (length (of-kind kind.Csv words)) (length (of-kind kind.Help words)) (of-kind kind.File words)
+abbrev pub request_of : List Text → Result Asked Wrong
+request_of words = asked_by (of_kind kind.Unknown words) (length (of_kind kind.Csv words)) (length (of_kind kind.Help words)) (of_kind kind.File words)
 
 -- an answer of the code, with each text by its bytes
 abbrev pub told : Result Request UsageError → Result Asked Wrong
 told (Ok Help) = Ok help
 told (Ok (Check form path)) = Ok (check form path.now)
-told (Err (UnknownOption option)) = Err (unknown-option option.now)
-told (Err (OptionTwice option)) = Err (option-twice option.now)
-told (Err TwoFiles) = Err two-files
-told (Err NoFile) = Err no-file
+told (Err (UnknownOption option)) = Err (unknown_option option.now)
+told (Err (OptionTwice option)) = Err (option_twice option.now)
+told (Err TwoFiles) = Err two_files
+told (Err NoFile) = Err no_file
 
 -- what is said of words that make no request
-abbrev pub usage-text : UsageError → Text
-usage-text (UnknownOption option) = codes "unknown option " ++ option.now
-usage-text (OptionTwice option) = option.now ++ codes " is given twice"
-usage-text TwoFiles = codes "more than one file is given"
-usage-text NoFile = codes "no file is given"
+abbrev pub usage_text : UsageError → Text
+usage_text (UnknownOption option) = codes "unknown option " ++ option.now
+usage_text (OptionTwice option) = option.now ++ codes " is given twice"
+usage_text TwoFiles = codes "more than one file is given"
+usage_text NoFile = codes "no file is given"

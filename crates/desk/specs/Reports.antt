@@ -1,12 +1,12 @@
 -- What is printed for people, byte by byte; the last line end is the caller's. Assumes nothing.
 use Rattle.std.specs.Prelude.{ℕ, List, ◌++◌, codes, decimal}
-use Rattle.parameter_text.specs.Questions.{question-number}
+use Rattle.parameter_text.specs.Questions.{question_number}
 use Rattle.parameter_text.specs.declared.terms.Question.{Question}
 use Rattle.parameter_text.specs.declared.terms.Question.TheVariants.{Length, Presence, Name, Cells, Form, Range, First, Tier}
 use Rattle.return_source.specs.declared.terms.Parameters.{Parameters}
 use Rattle.parameter_heading.specs.declared.terms.Fault.{Fault}
 use Rattle.parameter_file.specs.declared.terms.Summary.{Summary}
-use Rattle.figures.specs.Figures.{pointed, iso-date}
+use Rattle.figures.specs.Figures.{pointed, iso_date}
 use Rattle.figures.specs.Columns.{right, count_cell}
 
 -- a text at the right of a column of fourteen places
@@ -14,27 +14,27 @@ abbrev pub column : List ℕ → List ℕ
 column text = right 14 text
 
 -- the weight, the number of scenarios and the tail count of each set
-abbrev pub scenario-rows : Parameters → List ℕ
-scenario-rows p =
+abbrev pub scenario_rows : Parameters → List ℕ
+scenario_rows p =
     codes "                      historical        stress\nWeight            " ++ (column (pointed 4 p.historical.weight.ten_thousandths) ++ (column (pointed 4 p.stress.weight.ten_thousandths) ++ (
     codes "\nScenarios         " ++ (count_cell p.historical.count ++ (count_cell p.stress.count ++ (
     codes "\nTail              " ++ (count_cell p.historical.tail ++ count_cell p.stress.tail)))))))
 
 -- how many stocks are in each tier, and how many entitlements there are
-abbrev pub stock-rows : Summary → List ℕ
-stock-rows s =
+abbrev pub stock_rows : Summary → List ℕ
+stock_rows s =
     codes "Portfolio stocks  " ++ (count_cell s.portfolio_stocks ++ (
     codes "\nFlat-rate stocks  " ++ (count_cell s.flat_stocks ++ (
     codes "\nEntitlements      " ++ count_cell s.entitlements))))
 
 -- a file that passes
-abbrev pub summary-report : Summary → List ℕ
-summary-report s =
-    codes "The file passes.\n\nValuation date    " ++ (column (iso-date s.heading.date) ++ (
-    codes "\n\n" ++ (scenario-rows s.heading.parameters ++ (
+abbrev pub summary_report : Summary → List ℕ
+summary_report s =
+    codes "The file passes.\n\nValuation date    " ++ (column (iso_date s.heading.date) ++ (
+    codes "\n\n" ++ (scenario_rows s.heading.parameters ++ (
     codes "\n\nStep in dollars   " ++ (count_cell s.heading.parameters.step ++ (
     codes "\nHoliday factor    " ++ (column (pointed 10 s.heading.parameters.holiday_factor) ++ (
-    codes "\n\n" ++ stock-rows s))))))))
+    codes "\n\n" ++ stock_rows s))))))))
 
 -- what it means that a question is answered no
 abbrev pub meaning : Question → List ℕ
@@ -48,8 +48,8 @@ meaning First = codes "the stock already has such a row"
 meaning Tier = codes "the stock's rows of returns and of a flat rate do not stand together"
 
 -- a file that is refused
-abbrev pub fault-report : Fault → List ℕ
-fault-report x =
-    codes "question " ++ (decimal (question-number x.question) ++ (
+abbrev pub fault_report : Fault → List ℕ
+fault_report x =
+    codes "question " ++ (decimal (question_number x.question) ++ (
     codes ", line " ++ (decimal x.line ++ (
     codes ": " ++ meaning x.question))))

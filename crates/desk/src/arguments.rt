@@ -2,7 +2,7 @@
 ghost use Rattle.std.specs.Prelude.{◌≡◌, length, Some};
 ghost use Rattle.std.specs.Option.{option_map};
 ghost use Rattle.std.specs.Str.{bytes_eq};
-ghost use Rattle.desk.specs.Arguments.{dashed, known, is-of, of-kind, first_of, texts, told, request-of, usage-text};
+ghost use Rattle.desk.specs.Arguments.{dashed, known, is_of, of_kind, first_of, texts, told, request_of, usage_text};
 
 use figures::Form;
 use std::fmt;
@@ -24,7 +24,7 @@ pub enum UsageError<'a> {
 }
 
 impl fmt::Display for UsageError<'_> {
-    ghost output = { λ e. Some (usage-text e) };
+    ghost output = { λ e. Some (usage_text e) };
 
     fn fmt<W: fmt::Write>(&self, f: &mut fmt::Formatter<W>) -> fmt::Result {
         match self {
@@ -48,7 +48,7 @@ enum Kind {
 impl Kind {
     // Whether a word is of this kind.
     fn holds(self, word: &str) -> bool
-        ensures { result ≡ is-of self word.now }
+        ensures { result ≡ is_of self word.now }
     {
         match self {
             Kind::Csv => is_text(word, "--csv"),
@@ -79,7 +79,7 @@ fn is_option(word: &str) -> bool
 
 // How many words are of a kind.
 fn count(words: &[String], kind: Kind) -> usize
-    ensures { result ≡ length (of-kind kind (texts words.now)) }
+    ensures { result ≡ length (of_kind kind (texts words.now)) }
 {
     let mut count = 0;
     for word in words {
@@ -92,7 +92,7 @@ fn count(words: &[String], kind: Kind) -> usize
 
 // The first word of a kind.
 fn first<'a>(words: &'a [String], kind: Kind) -> Option<&'a str>
-    ensures { option_map (λ x. x.now) result ≡ first_of (of-kind kind (texts words.now)) }
+    ensures { option_map (λ x. x.now) result ≡ first_of (of_kind kind (texts words.now)) }
 {
     for word in words {
         let text = word.as_str();
@@ -106,7 +106,7 @@ fn first<'a>(words: &'a [String], kind: Kind) -> Option<&'a str>
 impl<'a> Request<'a> {
     // What the words ask for; options may stand anywhere. Of several faults the error names the first of its cases.
     pub fn from_words(words: &'a [String]) -> Result<Request<'a>, UsageError<'a>>
-        ensures { told result ≡ request-of (texts words.now) }
+        ensures { told result ≡ request_of (texts words.now) }
     {
         if let Some(option) = first(words, Kind::Unknown) {
             return Err(UsageError::UnknownOption(option));

@@ -1,6 +1,6 @@
 // What a check found, for scripts.
 ghost use Rattle.std.specs.Prelude.{Some};
-ghost use Rattle.desk.specs.Csv.{fault-line, scenario-lines, stock-lines, summary-lines};
+ghost use Rattle.desk.specs.Csv.{fault_line, scenario_lines, stock_lines, summary_lines};
 
 use figures::{FourPlaces, IsoDate, TenPlaces};
 use parameter_file::Summary;
@@ -13,7 +13,7 @@ use std::fmt;
 pub struct CsvSummary<'a>(pub &'a Summary);
 
 impl fmt::Display for CsvSummary<'_> {
-    ghost output = { λ x. Some (summary-lines x.0.now) };
+    ghost output = { λ x. Some (summary_lines x.0.now) };
 
     fn fmt<W: fmt::Write>(&self, f: &mut fmt::Formatter<W>) -> fmt::Result {
         let date = IsoDate(&self.0.heading.date);
@@ -38,7 +38,7 @@ impl fmt::Display for CsvSummary<'_> {
 struct CsvScenarios<'a>(&'a Parameters);
 
 impl fmt::Display for CsvScenarios<'_> {
-    ghost output = { λ x. Some (scenario-lines x.0.now) };
+    ghost output = { λ x. Some (scenario_lines x.0.now) };
 
     fn fmt<W: fmt::Write>(&self, f: &mut fmt::Formatter<W>) -> fmt::Result {
         let historical = &self.0.historical;
@@ -65,7 +65,7 @@ impl fmt::Display for CsvScenarios<'_> {
 struct CsvStocks<'a>(&'a Summary);
 
 impl fmt::Display for CsvStocks<'_> {
-    ghost output = { λ x. Some (stock-lines x.0.now) };
+    ghost output = { λ x. Some (stock_lines x.0.now) };
 
     fn fmt<W: fmt::Write>(&self, f: &mut fmt::Formatter<W>) -> fmt::Result {
         let portfolio = self.0.portfolio_stocks;
@@ -85,7 +85,7 @@ impl fmt::Display for CsvStocks<'_> {
 pub struct CsvFault<'a>(pub &'a Fault);
 
 impl fmt::Display for CsvFault<'_> {
-    ghost output = { λ x. Some (fault-line x.0.now) };
+    ghost output = { λ x. Some (fault_line x.0.now) };
 
     fn fmt<W: fmt::Write>(&self, f: &mut fmt::Formatter<W>) -> fmt::Result {
         let question = self.0.question.number();

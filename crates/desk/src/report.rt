@@ -1,6 +1,6 @@
 // What a check found, for people.
 ghost use Rattle.std.specs.Prelude.{◌≡◌, Some};
-ghost use Rattle.desk.specs.Reports.{fault-report, meaning as meaning-of, scenario-rows, stock-rows, summary-report};
+ghost use Rattle.desk.specs.Reports.{fault_report, meaning as meaning_of, scenario_rows, stock_rows, summary_report};
 
 use figures::{Column, CountCell, FourPlaces, IsoDate, TenPlaces};
 use parameter_file::Summary;
@@ -17,7 +17,7 @@ const WIDTH: usize = 14;
 pub struct SummaryReport<'a>(pub &'a Summary);
 
 impl fmt::Display for SummaryReport<'_> {
-    ghost output = { λ x. Some (summary-report x.0.now) };
+    ghost output = { λ x. Some (summary_report x.0.now) };
 
     fn fmt<W: fmt::Write>(&self, f: &mut fmt::Formatter<W>) -> fmt::Result {
         let date = Column {
@@ -52,7 +52,7 @@ impl fmt::Display for SummaryReport<'_> {
 struct ScenarioRows<'a>(&'a Parameters);
 
 impl fmt::Display for ScenarioRows<'_> {
-    ghost output = { λ x. Some (scenario-rows x.0.now) };
+    ghost output = { λ x. Some (scenario_rows x.0.now) };
 
     fn fmt<W: fmt::Write>(&self, f: &mut fmt::Formatter<W>) -> fmt::Result {
         let historical = &self.0.historical;
@@ -83,7 +83,7 @@ impl fmt::Display for ScenarioRows<'_> {
 struct StockRows<'a>(&'a Summary);
 
 impl fmt::Display for StockRows<'_> {
-    ghost output = { λ x. Some (stock-rows x.0.now) };
+    ghost output = { λ x. Some (stock_rows x.0.now) };
 
     fn fmt<W: fmt::Write>(&self, f: &mut fmt::Formatter<W>) -> fmt::Result {
         let portfolio = CountCell(self.0.portfolio_stocks);
@@ -103,7 +103,7 @@ impl fmt::Display for StockRows<'_> {
 pub struct FaultReport<'a>(pub &'a Fault);
 
 impl fmt::Display for FaultReport<'_> {
-    ghost output = { λ x. Some (fault-report x.0.now) };
+    ghost output = { λ x. Some (fault_report x.0.now) };
 
     fn fmt<W: fmt::Write>(&self, f: &mut fmt::Formatter<W>) -> fmt::Result {
         let question = self.0.question.number();
@@ -115,7 +115,7 @@ impl fmt::Display for FaultReport<'_> {
 
 // What it means that a question is answered no.
 fn meaning(question: Question) -> &'static str
-    ensures { result.now ≡ meaning-of question }
+    ensures { result.now ≡ meaning_of question }
 {
     match question {
         Question::Length => "the file is empty or longer than 67,108,864 bytes",

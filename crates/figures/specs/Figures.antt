@@ -22,5 +22,5 @@ dollars (pos n) = separated 6 n
 dollars (negsuc n) = codes "-" ++ separated 6 (n + 1)
 
 -- a day as year, month and day, the last two of two digits
-abbrev pub iso-date : Date → List ℕ
-iso-date d = decimal d.year ++ (codes "-" ++ (padded 2 d.month ++ (codes "-" ++ padded 2 d.day)))
+abbrev pub iso_date : Date → List ℕ
+iso_date d = decimal d.year ++ (codes "-" ++ (padded 2 d.month ++ (codes "-" ++ padded 2 d.day)))

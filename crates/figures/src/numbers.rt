@@ -1,7 +1,7 @@
 // Figures as text: with zeros in front, with places after a point, with separated thousands, and dates.
 ghost use Rattle.std.specs.Prelude.{Some, decimal};
 ghost use Rattle.std.specs.Fmt.{WritesOnOk};
-ghost use Rattle.figures.specs.Figures.{padded, pointed, separated, dollars, iso-date};
+ghost use Rattle.figures.specs.Figures.{padded, pointed, separated, dollars, iso_date};
 
 use parameter_text::Date;
 use std::fmt;
@@ -72,7 +72,7 @@ impl fmt::Display for TenPlaces {
 pub struct IsoDate<'a>(pub &'a Date);
 
 impl fmt::Display for IsoDate<'_> {
-    ghost output = { λ x. Some (iso-date x.0.now) };
+    ghost output = { λ x. Some (iso_date x.0.now) };
 
     fn fmt<W: fmt::Write>(&self, f: &mut fmt::Formatter<W>) -> fmt::Result {
         let year = self.0.year;

@@ -25,8 +25,8 @@ ranks {X} {before} o = record {
       (cases_Bool (before x z));
 }
 
-pub all-drop-less : {X : Type 0} (P : X → Type 0) (xs : List X) (i : ℕ) (y : X) → 0 < i → i ≤ length xs → y ≡ get_or xs (i - 1) y → P y → All P (drop i xs) → All P (drop (i - 1) xs)
-all-drop-less P xs i y p h e q a =
+pub all_drop_less : {X : Type 0} (P : X → Type 0) (xs : List X) (i : ℕ) (y : X) → 0 < i → i ≤ length xs → y ≡ get_or xs (i - 1) y → P y → All P (drop i xs) → All P (drop (i - 1) xs)
+all_drop_less P xs i y p h e q a =
     let one : i - 1 + 1 ≡ i = omega arith in
     let front : drop (i - 1) xs ≡ get_or xs (i - 1) y ∷ drop (i - 1 + 1) xs = drop_more xs (i - 1) y (omega arith) in
     rw front (subst P e q, rw one a)
@@ -35,9 +35,9 @@ module _ {X : Type 0} {before : X → X → Bool} (o : IsStrictWeakOrder before)
   same : (x : X) → before x x ≡ false
   same x = ⊎_elim (λ t. o.one_way x x t) (λ f. f) (cases_Bool (before x x))
 
-  first-least : (y : X) (ys : List X) (i : ℕ) (d : X) → InOrder before (y ∷ ys) → i < suc (length ys) → before (get_or (y ∷ ys) i d) y ≡ false
-  first-least y ys zero d s h = same y
-  first-least y ys (suc i) d s h = All-get_or (λ z. before z y ≡ false) ys i d (omega arith) s.0
+  first_least : (y : X) (ys : List X) (i : ℕ) (d : X) → InOrder before (y ∷ ys) → i < suc (length ys) → before (get_or (y ∷ ys) i d) y ≡ false
+  first_least y ys zero d s h = same y
+  first_least y ys (suc i) d s h = All-get_or (λ z. before z y ≡ false) ys i d (omega arith) s.0
 
   down : (x y : X) (ys : List X) (i : ℕ) → before x (get_or (y ∷ ys) i x) ≡ false → 0 < i → before x (get_or ys (i - 1) x) ≡ false
   down x y ys zero h p = absurd (omega arith)
@@ -53,42 +53,42 @@ module _ {X : Type 0} {before : X → X → Bool} (o : IsStrictWeakOrder before)
   rank_is x (y ∷ ys) (suc i) s h a l =
       let n : suc i - 1 ≡ i = omega arith in
       let here : before x (get_or (y ∷ ys) i x) ≡ false = rw n at (l (omega arith)) in
-      let no : before x y ≡ false = o.chain x (get_or (y ∷ ys) i x) y here (first-least y ys i x s (omega arith)) in
+      let no : before x y ≡ false = o.chain x (get_or (y ∷ ys) i x) y here (first_least y ys i x s (omega arith)) in
       let more : i ≡ rank x ys = rank_is x ys i s.1 (omega arith) a (down x y ys i here) in
       rw no (omega arith)
 
-  pub insertion-is : (x : X) (ys : List X) → insert_by before x ys ≡ take (rank x ys) ys ++ x ∷ drop (rank x ys) ys
-  insertion-is x [] = refl
-  insertion-is x (y ∷ ys) =
+  pub insertion_is : (x : X) (ys : List X) → insert_by before x ys ≡ take (rank x ys) ys ++ x ∷ drop (rank x ys) ys
+  insertion_is x [] = refl
+  insertion_is x (y ∷ ys) =
       elim (before x y) as (λ t. cond t (x ∷ y ∷ ys) (y ∷ insert_by before x ys) ≡ take (cond (not t) (1 + rank x ys) 0) (y ∷ ys) ++ x ∷ drop (cond (not t) (1 + rank x ys) 0) (y ∷ ys)) [
         | true ↦ refl
-        | false ↦ let one : 1 + rank x ys ≡ suc (rank x ys) = omega arith in rw one (ap (λ l. y ∷ l) (insertion-is x ys))
+        | false ↦ let one : 1 + rank x ys ≡ suc (rank x ys) = omega arith in rw one (ap (λ l. y ∷ l) (insertion_is x ys))
       ]
 
-  all-insertion : (P : X → Type 0) (x : X) (ys : List X) → P x → All P ys → All P (insert_by before x ys)
-  all-insertion P x [] p a = (p, tt)
-  all-insertion P x (y ∷ ys) p a =
-      elim (before x y) as (λ t. All P (cond t (x ∷ y ∷ ys) (y ∷ insert_by before x ys))) [ true ↦ (p, a) | false ↦ (a.0, all-insertion P x ys p a.1) ]
+  all_insertion : (P : X → Type 0) (x : X) (ys : List X) → P x → All P ys → All P (insert_by before x ys)
+  all_insertion P x [] p a = (p, tt)
+  all_insertion P x (y ∷ ys) p a =
+      elim (before x y) as (λ t. All P (cond t (x ∷ y ∷ ys) (y ∷ insert_by before x ys))) [ true ↦ (p, a) | false ↦ (a.0, all_insertion P x ys p a.1) ]
 
   behind : (x y : X) (zs : List X) → before x y ≡ true → All (λ z. before z y ≡ false) zs → All (λ z. before z x ≡ false) zs
   behind x y [] h a = tt
   behind x y (z ∷ zs) h a = (o.chain z y x a.0 (o.one_way x y h), behind x y zs h a.1)
 
-  pub in_order-insertion : (x : X) (ys : List X) → InOrder before ys → InOrder before (insert_by before x ys)
-  in_order-insertion x [] s = (tt, tt)
-  in_order-insertion x (y ∷ ys) s =
+  pub in_order_insertion : (x : X) (ys : List X) → InOrder before ys → InOrder before (insert_by before x ys)
+  in_order_insertion x [] s = (tt, tt)
+  in_order_insertion x (y ∷ ys) s =
       ⊎_elim
       (λ t. subst (InOrder before) (sym (ap (λ b. cond b (x ∷ y ∷ ys) (y ∷ insert_by before x ys)) t)) ((o.one_way x y t, behind x y ys t s.0), s))
-      (λ f. subst (InOrder before) (sym (ap (λ b. cond b (x ∷ y ∷ ys) (y ∷ insert_by before x ys)) f)) (all-insertion (λ z. before z y ≡ false) x ys f s.0, in_order-insertion x ys s.1))
+      (λ f. subst (InOrder before) (sym (ap (λ b. cond b (x ∷ y ∷ ys) (y ∷ insert_by before x ys)) f)) (all_insertion (λ z. before z y ≡ false) x ys f s.0, in_order_insertion x ys s.1))
       (cases_Bool (before x y))
 
-  pub in_order-take : (n : ℕ) (ys : List X) → InOrder before ys → InOrder before (take n ys)
-  in_order-take zero ys s = tt
-  in_order-take (suc n) [] s = tt
-  in_order-take (suc n) (y ∷ ys) s = (All-take (λ z. before z y ≡ false) n ys s.0, in_order-take n ys s.1)
+  pub in_order_take : (n : ℕ) (ys : List X) → InOrder before ys → InOrder before (take n ys)
+  in_order_take zero ys s = tt
+  in_order_take (suc n) [] s = tt
+  in_order_take (suc n) (y ∷ ys) s = (All-take (λ z. before z y ≡ false) n ys s.0, in_order_take n ys s.1)
 
-  pub in_order-keep : (n : ℕ) (x : X) (ys : List X) → InOrder before ys → InOrder before (keep before n ys x)
-  in_order-keep n x ys s = in_order-take n (insert_by before x ys) (in_order-insertion x ys s)
+  pub in_order_keep : (n : ℕ) (x : X) (ys : List X) → InOrder before ys → InOrder before (keep before n ys x)
+  in_order_keep n x ys s = in_order_take n (insert_by before x ys) (in_order_insertion x ys s)
 
   module _ (x : X) (old : List X) (len at end : ℕ) (h : len ≤ length old) (s : at ≡ rank x (take len old)) where
     front : at ≤ len
@@ -98,10 +98,10 @@ module _ {X : Type 0} {before : X → X → Bool} (o : IsStrictWeakOrder before)
     abbrev pub kept : List X
     kept = take at old ++ x ∷ between at end old
 
-    keep-split : keep before (length old) (take len old) x ≡ take (length old) (take at old ++ x ∷ between at len old)
-    keep-split =
+    keep_split : keep before (length old) (take len old) x ≡ take (length old) (take at old ++ x ∷ between at len old)
+    keep_split =
         let k = front in
-        let e : insert_by before x (take len old) ≡ take at (take len old) ++ x ∷ drop at (take len old) = rw s (insertion-is x (take len old)) in
+        let e : insert_by before x (take len old) ≡ take at (take len old) ++ x ∷ drop at (take len old) = rw s (insertion_is x (take len old)) in
         ap (take (length old)) (e ∙ (λ i. take-take at len old k i ++ x ∷ sym (between_is old at len) i))
 
     module _ (lt : at < length old) (e : end ≡ min (length old - 1) len) where
@@ -112,11 +112,11 @@ module _ {X : Type 0} {before : X → X → Bool} (o : IsStrictWeakOrder before)
           (λ q. let same : length old - at - 1 ≡ end - at = omega arith in rw same (take-take (end - at) (len - at) (drop at old) (omega arith)))
           (cases_lt len (length old))
 
-      pub keep-is : keep before (length old) (take len old) x ≡ kept
-      keep-is =
+      pub keep_is : keep before (length old) (take len old) x ≡ kept
+      keep_is =
           let p : length (take at old) ≡ at = length-take-le at old (omega arith) in
           let n : length old ≡ length (take at old) + suc (length old - at - 1) = omega arith in
-          keep-split ∙ ap (λ k. take k (take at old ++ x ∷ between at len old)) n ∙ take-append-add (take at old) (x ∷ between at len old) (suc (length old - at - 1))
+          keep_split ∙ ap (λ k. take k (take at old ++ x ∷ between at len old)) n ∙ take-append-add (take at old) (x ∷ between at len old) (suc (length old - at - 1))
           ∙ ap (λ l. take at old ++ x ∷ l) part
 
       long : length kept ≡ end + 1
@@ -131,16 +131,16 @@ module _ {X : Type 0} {before : X → X → Bool} (o : IsStrictWeakOrder before)
           let cut : moved old at end ≡ take at old ++ (get_or old at x ∷ rest) = ap (λ l. l ++ rest) (take_more old at x lt) ∙ append_assoc (take at old) (get_or old at x ∷ []) rest in
           ap (λ l. set l at x) cut ∙ set_at (take at old) (get_or old at x) rest x at p ∙ sym (append_assoc (take at old) (x ∷ between at end old) (drop (end + 1) old))
 
-      pub take-written : take (end + 1) (set (moved old at end) at x) ≡ kept
-      take-written = ap (take (end + 1)) written ∙ take_at kept (drop (end + 1) old) (end + 1) long
+      pub take_written : take (end + 1) (set (moved old at end) at x) ≡ kept
+      take_written = ap (take (end + 1)) written ∙ take_at kept (drop (end + 1) old) (end + 1) long
 
-      pub drop-written : drop (end + 1) (set (moved old at end) at x) ≡ drop (end + 1) old
-      drop-written = ap (drop (end + 1)) written ∙ drop_at kept (drop (end + 1) old) (end + 1) long
+      pub drop_written : drop (end + 1) (set (moved old at end) at x) ≡ drop (end + 1) old
+      drop_written = ap (drop (end + 1)) written ∙ drop_at kept (drop (end + 1) old) (end + 1) long
 
     -- no place is left for x
-    pub keep-none : length old ≤ at → take len old ≡ keep before (length old) (take len old) x
-    keep-none q =
+    pub keep_none : length old ≤ at → take len old ≡ keep before (length old) (take len old) x
+    keep_none q =
         let k = front in
         let same : at ≡ length old = omega arith in
         let all : len ≡ length old = omega arith in
-        sym (keep-split ∙ take_at (take at old) (x ∷ between at len old) (length old) (length-take-le at old (omega arith) ∙ same) ∙ ap (λ n. take n old) (same ∙ sym all))
+        sym (keep_split ∙ take_at (take at old) (x ∷ between at len old) (length old) (length-take-le at old (omega arith) ∙ same) ∙ ap (λ n. take n old) (same ∙ sym all))

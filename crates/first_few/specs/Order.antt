@@ -10,6 +10,6 @@ InOrder before [] = ⊤
 InOrder before (x ∷ xs) = AllByRecursion (λ y. before y x ≡ false) xs × InOrder before xs
 
 -- it holds in one way
-pub InOrder-prop : {X : Type 0} (before : X → X → Bool) (xs : List X) → IsProp (InOrder before xs)
-InOrder-prop before [] = Unit-prop
-InOrder-prop before (x ∷ xs) = ×_prop (AllByRecursion-prop _ (λ y. Bool-set _ _) xs) (InOrder-prop before xs)
+pub in_order_prop : {X : Type 0} (before : X → X → Bool) (xs : List X) → IsProp (InOrder before xs)
+in_order_prop before [] = Unit-prop
+in_order_prop before (x ∷ xs) = ×_prop (AllByRecursion-prop _ (λ y. Bool-set _ _) xs) (in_order_prop before xs)

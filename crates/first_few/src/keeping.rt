@@ -1,7 +1,7 @@
 // The first few of what is offered, over lent places.
 ghost use Rattle.std.specs.Prelude.{◌≡◌, ◌≤◌, ◌+◌, min, List, [], ◌∷◌, ◌++◌, length, take, drop};
 ghost use Rattle.amounts.specs.FirstFew.{keep};
-ghost use Rattle.first_few.specs.Order.{InOrder, InOrder-prop};
+ghost use Rattle.first_few.specs.Order.{InOrder, in_order_prop};
 ghost use Rattle.first_few.specs.First.{AreFirst, KeepsTheFirst};
 
 use crate::inserting::insert;
@@ -13,7 +13,7 @@ pub struct FirstFew<'a, T: Order> {
     places: &'a mut [T],
     len: usize,
     ghost within: { len ≤ length places.now },
-    ghost in_order: { InOrder T.before (take len places.now) } by { InOrder-prop T.before (take len places.now) },
+    ghost in_order: { InOrder T.before (take len places.now) } by { in_order_prop T.before (take len places.now) },
 }
 
 impl<'a, T: Order> FirstFew<'a, T> {

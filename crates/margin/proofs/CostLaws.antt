@@ -5,7 +5,7 @@ use Rattle.std.proofs.Math.IntN.{*ℤ-zero, zero-*ℤ, *ℤ_comm}
 use Rattle.amounts.specs.Sums.{sum_of}
 use Rattle.amounts.specs.Charges.{long, short, sided}
 use Rattle.return_source.specs.Meaning.{Meaning}
-use Rattle.return_source.specs.Lawful.{Lawful, Lawful-entitlement}
+use Rattle.return_source.specs.Lawful.{Lawful, LawfulEntitlement}
 use Rattle.ledger.specs.declared.terms.Kind.{Kind}
 use Rattle.ledger.specs.declared.terms.Kind.TheVariants.{Stock, Dsp, Sri, Div}
 use Rattle.return_source.specs.declared.terms.EntitlementType.TheVariants as entitlement
@@ -20,7 +20,7 @@ use Rattle.margin.proofs.Keys.{pass, pass_end}
 use Rattle.margin.proofs.Support.{market_none, visited_sum}
 
 -- every entitlement of a lawful source has percentages of at most 4
-pub lawful_entitlement : (m : Meaning) → Lawful m → (k : Kind) (x : ℕ) → IfSome (entitlement_of m k x) Lawful-entitlement
+pub lawful_entitlement : (m : Meaning) → Lawful m → (k : Kind) (x : ℕ) → IfSome (entitlement_of m k x) LawfulEntitlement
 lawful_entitlement m ok Stock x = tt
 lawful_entitlement m ok Dsp x = ok.entitlements entitlement.Dsp x
 lawful_entitlement m ok Sri x = ok.entitlements entitlement.Sri x

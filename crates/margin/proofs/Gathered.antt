@@ -3,8 +3,8 @@ use Rattle.std.proofs.Common.{◌≡◌, ℕ, ◌⊎◌, Bool, true, false, cond
 use Rattle.amounts.specs.FirstFew.{kept}
 use Rattle.amounts.specs.Sets.{In, Apart, Within}
 use Rattle.amounts.proofs.Keep.{kept_same}
-use Rattle.amounts.proofs.Sets.{apart-map}
-use Rattle.amounts.proofs.Support.{apart-counting}
+use Rattle.amounts.proofs.Sets.{apart_map}
+use Rattle.amounts.proofs.Support.{apart_counting}
 use Rattle.ledger.specs.declared.terms.Kind.{Kind}
 use Rattle.ledger.specs.declared.terms.Place.{Place}
 use Rattle.ledger.specs.Kinds.{kind_number}
@@ -109,7 +109,7 @@ within_gathered f g w [] h i = i
 within_gathered f g w (k ∷ ks) h i = elim (in_either h (f k) (gathered f ks) i) [ inl j ↦ in_left h (g k) (gathered g ks) (w k h j) | inr j ↦ in_right h (g k) (gathered g ks) (within_gathered f g w ks h j) ]
 
 kinds_apart : Apart all_kinds
-kinds_apart = apart-map kind_number all_kinds (apart-counting 0 4)
+kinds_apart = apart_map kind_number all_kinds (apart_counting 0 4)
 
 -- the greatest of the positions that are visited are the greatest of all
 pub visited_kept : (t : List Place) → sound t ≡ true → (n : ℕ) → kept larger n (gathered (listed t) all_kinds) ≡ kept larger n (holdings_of (book t) all_stocks all_kinds)

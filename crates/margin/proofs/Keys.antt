@@ -4,7 +4,7 @@ use Rattle.std.proofs.lemmas.Bool.{cases_Bool}
 use Rattle.std.proofs.lemmas.List.{at_drop_more, at_drop_all}
 use Rattle.amounts.specs.Sums.{sum_of}
 use Rattle.amounts.specs.Sets.{In, Apart}
-use Rattle.amounts.proofs.Support.{sum-support}
+use Rattle.amounts.proofs.Support.{sum_support}
 use Rattle.ledger.specs.declared.terms.Place.{Place}
 use Rattle.ledger.specs.declared.terms.Place.TheVariants.{Free}
 use Rattle.margin.specs.Visits.{is_key, any_key, last_key, onto, visited}
@@ -87,5 +87,5 @@ module _ (key : Place → Option ℕ) where
   -- where every key is one of the numbers us, and a figure is nothing at all others, its sum over the keys is that over us
   pub keys_sum : (ps : List Place) (us : List ℕ) → Apart us → ((x : ℕ) → any_key key x ps ≡ true → In x us) → (f : ℕ → ℤ) → ((x : ℕ) → any_key key x ps ≡ false → f x ≡ pos 0) → sum_of f (visited key ps) ≡ sum_of f us
   keys_sum ps us a w f h =
-      sum-support f (visited key ps) us (keys_apart ps) a (λ x i. w x (keys_any x ps i))
+      sum_support f (visited key ps) us (keys_apart ps) a (λ x i. w x (keys_any x ps i))
       (λ x i n. h x (elim (cases_Bool (any_key key x ps)) [ inl e ↦ absurd (n (any_keys x ps e)) | inr e ↦ e ]))

@@ -7,8 +7,8 @@ use Rattle.std.proofs.lemmas.Bool.{cases_Bool}
 use Rattle.amounts.specs.Sums.{sum_of, when}
 use Rattle.amounts.specs.Sets.{In, Apart}
 use Rattle.amounts.specs.Charges.{long, short}
-use Rattle.amounts.proofs.Support.{sum-zero, apart-counting, in-counting}
-use Rattle.return_source.specs.Meaning.{Meaning, tier-of}
+use Rattle.amounts.proofs.Support.{sum_zero, apart_counting, in_counting}
+use Rattle.return_source.specs.Meaning.{Meaning, tier_of}
 use Rattle.return_source.specs.Lawful.{Lawful}
 use Rattle.ledger.specs.declared.terms.Kind.TheVariants.{Stock}
 use Rattle.ledger.specs.declared.terms.Settings.{Settings}
@@ -25,11 +25,11 @@ use Rattle.margin.proofs.SideLaws.{OneSide, long_side, short_side}
 
 pub rates_apart : Apart all_rates
 unfolding all_rates
-rates_apart = apart-counting 0 10001
+rates_apart = apart_counting 0 10001
 
 pub in_rates : (q : ℕ) → q ≤ 10000 → In q all_rates
 unfolding all_rates
-in_rates q h = in-counting 0 10001 q (omega arith) (omega arith)
+in_rates q h = in_counting 0 10001 q (omega arith) (omega arith)
 
 -- a rate that a stock has in the flat tier is one of all
 module _ (m : Meaning) (ok : Lawful m) where
@@ -38,7 +38,7 @@ module _ (m : Meaning) (ok : Lawful m) where
   small_or_none q (Some r) h e = omega (arith, eqb-true q r e, h)
 
   stock_rate : (x q : ℕ) → is_key q (flat_rate_of m x) ≡ true → q ≤ 10000
-  stock_rate x q = go (is_flat (tier-of m x))
+  stock_rate x q = go (is_flat (tier_of m x))
     where
       go : (b : Bool) → is_key q (cond b (m.rate x) None) ≡ true → q ≤ 10000
       go true e = small_or_none q (m.rate x) (ok.rates x) e
@@ -83,7 +83,7 @@ module _ (m : Meaning) (q x : ℕ) where
   key_rate (Some r) = refl
 
   rate_key : is_key q (flat_rate_of m x) ≡ at_rate m q x
-  rate_key = go (is_flat (tier-of m x))
+  rate_key = go (is_flat (tier_of m x))
     where
       go : (b : Bool) → is_key q (cond b (m.rate x) None) ≡ (b && is_rate q (m.rate x))
       go true = key_rate (m.rate x)
@@ -110,7 +110,7 @@ module _ (m : Meaning) (ps : List Place) where
 
   -- no place of a rate, no side
   part_none : (g : ℤ → ℤ) → OneSide g → (q : ℕ) → any_key (rate_in m) q ps ≡ false → sum_of (λ x. when (at_rate m q x) (g (mv x))) all_stocks ≡ pos 0
-  part_none g z q e = sum-zero (λ x. when (at_rate m q x) (g (mv x))) all_stocks (λ x i. go x (at_rate m q x) refl)
+  part_none g z q e = sum_zero (λ x. when (at_rate m q x) (g (mv x))) all_stocks (λ x i. go x (at_rate m q x) refl)
     where
       away : (x : ℕ) → at_rate m q x ≡ true → any_place (held_in Stock x) ps ≡ false
       away x a = elim (cases_Bool (any_place (held_in Stock x) ps)) [ inl h ↦ absurd (true_false (sym (held_rate m q x ps a h) ∙ e)) | inr h ↦ h ]

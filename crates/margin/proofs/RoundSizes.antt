@@ -5,8 +5,8 @@ use Rattle.std.proofs.lemmas.Int.{ints}
 use Rattle.std.proofs.lemmas.Bool.{cases_lt}
 use Rattle.amounts.specs.Rounding.{nearest, round_off}
 
-nearest-small : (d n b : ℕ) → 0 < d → n ≤ d * b → nearest d n ≤ b
-nearest-small d n b h k = go (cases_lt b (nearest d n))
+nearest_small : (d n b : ℕ) → 0 < d → n ≤ d * b → nearest d n ≤ b
+nearest_small d n b h k = go (cases_lt b (nearest d n))
   where
     go : (b < nearest d n) ⊎ (nearest d n ≤ b) → nearest d n ≤ b
     go (inl l) =
@@ -15,12 +15,12 @@ nearest-small d n b h k = go (cases_lt b (nearest d n))
         absurd (omega (arith, div-add-mod' (2 * n + d) (2 * d), m))
     go (inr l) = l
 
-abs-neg : (z : ℤ) → unsigned_abs (neg_ℤ z) ≡ unsigned_abs z
-abs-neg z = omega (arith, ints)
+abs_neg : (z : ℤ) → unsigned_abs (neg_ℤ z) ≡ unsigned_abs z
+abs_neg z = omega (arith, ints)
 
-pub round-small : (d : ℕ) (z : ℤ) (b : ℕ) → 0 < d → unsigned_abs z ≤ d * b → unsigned_abs (round_off d z) ≤ b
-round-small d (pos n) b h k = nearest-small d n b h k
-round-small d (negsuc n) b h k = omega (arith, abs-neg (pos (nearest d (suc n))), nearest-small d (suc n) b h k)
+pub round_small : (d : ℕ) (z : ℤ) (b : ℕ) → 0 < d → unsigned_abs z ≤ d * b → unsigned_abs (round_off d z) ≤ b
+round_small d (pos n) b h k = nearest_small d n b h k
+round_small d (negsuc n) b h k = omega (arith, abs_neg (pos (nearest d (suc n))), nearest_small d (suc n) b h k)
 
 -- a number as wide code hands it on
 pub wide : (z : ℤ) → unsigned_abs z ≤ 10 ^ 30 → to_z w128 (of_z w128 z) ≡ z

@@ -22,9 +22,9 @@ pub through : (z : ℤ) → mag z < 9223372036854775808 → to_z w64 (of_z w64 z
 through z h = let f : FitsSigned w64 z = record { sfits = h } in to_z-of_z w64 z f
 
 module _ (p : Parameters) (s : Settings) (portfolio flat corporate mark : ℤ) (n : ℕ) where
-  pub figures-are : (ch ho gi ag ro fa re ne cr cd gb to : ℤ) → ch ≡ portfolio +ℤ flat → ho ≡ holiday_on p ch → gi ≡ pos (given_inside s) → ag ≡ ch +ℤ corporate +ℤ ho +ℤ gi → ro ≡ round_up_int p.step ag → fa ≡ long mark → re ≡ short mark → ne ≡ less ro fa → cr ≡ pos s.credit → cd ≡ less ne cr → gb ≡ pos (given_beside s) → to ≡ cd +ℤ re +ℤ gb →
+  pub figures_are : (ch ho gi ag ro fa re ne cr cd gb to : ℤ) → ch ≡ portfolio +ℤ flat → ho ≡ holiday_on p ch → gi ≡ pos (given_inside s) → ag ≡ ch +ℤ corporate +ℤ ho +ℤ gi → ro ≡ round_up_int p.step ag → fa ≡ long mark → re ≡ short mark → ne ≡ less ro fa → cr ≡ pos s.credit → cd ≡ less ne cr → gb ≡ pos (given_beside s) → to ≡ cd +ℤ re +ℤ gb →
       ◌≡◌ {A = Assessment} (record { portfolio = portfolio; flat_rate = flat; corporate_action = corporate; holiday = ho; aggregate = ag; rounded = ro; favourable = fa; requirement = re; net = ne; credited = cd; total = to; positions = n }) (figures_on p s portfolio flat corporate mark n)
-  figures-are ch ho gi ag ro fa re ne cr cd gb to e1 e2 e3 e4 e5 e6 e7 e8 e9 e10 e11 e12 =
+  figures_are ch ho gi ag ro fa re ne cr cd gb to e1 e2 e3 e4 e5 e6 e7 e8 e9 e10 e11 e12 =
       let holiday = e2 ∙ ap (holiday_on p) e1 in
       let aggregate : ag ≡ aggregate_on p s (portfolio +ℤ flat) corporate = e4 ∙ (λ i. e1 i +ℤ corporate +ℤ holiday i +ℤ e3 i) in
       let rounded = e5 ∙ ap (round_up_int p.step) aggregate in
@@ -37,23 +37,23 @@ pub through_small : (z : ℤ) → unsigned_abs z ≤ 4000000000000000000 → to_
 through_small z h = omega (arith, ints)
 
 -- the figures of an account are those that follow from its margins, its mark and its positions
-pub figures-of : (m : Meaning) (s : Settings) (us qs : List ℕ) (b : Book) (p : Parameters) (portfolio flat corporate mark : ℤ) (n : ℕ) → p ≡ m.parameters → portfolio ≡ portfolio_margin m s us (b.market Stock) → flat ≡ flat_margin m s us qs (b.market Stock) → corporate ≡ corporate_margin m us b.market → mark ≡ b.mark → n ≡ portfolio_positions m us b.held → figures_on p s portfolio flat corporate mark n ≡ figures_of m s us qs b
+pub figures_agree : (m : Meaning) (s : Settings) (us qs : List ℕ) (b : Book) (p : Parameters) (portfolio flat corporate mark : ℤ) (n : ℕ) → p ≡ m.parameters → portfolio ≡ portfolio_margin m s us (b.market Stock) → flat ≡ flat_margin m s us qs (b.market Stock) → corporate ≡ corporate_margin m us b.market → mark ≡ b.mark → n ≡ portfolio_positions m us b.held → figures_on p s portfolio flat corporate mark n ≡ figures_of m s us qs b
 unfolding figures_of total_margin rounded_margin aggregate_margin holiday_margin charged
-figures-of m s us qs b p portfolio flat corporate mark n e1 e2 e3 e4 e5 e6 = λ i. figures_on (e1 i) s (e2 i) (e3 i) (e4 i) (e5 i) (e6 i)
+figures_agree m s us qs b p portfolio flat corporate mark n e1 e2 e3 e4 e5 e6 = λ i. figures_on (e1 i) s (e2 i) (e3 i) (e4 i) (e5 i) (e6 i)
 
 module _ (m : Meaning) (s : Settings) (us qs : List ℕ) (b : Book) (portfolio flat : ℤ) (e : portfolio ≡ portfolio_margin m s us (b.market Stock)) (f : flat ≡ flat_margin m s us qs (b.market Stock)) where
   -- portfolio and flat-rate margin together are too large
-  pub figures-refused : int_le (portfolio +ℤ flat) most_margin ≡ false → Err Margin ≡ unless_large (figures_of m s us qs b)
+  pub figures_refused : int_le (portfolio +ℤ flat) most_margin ≡ false → Err Margin ≡ unless_large (figures_of m s us qs b)
   unfolding figures_of
-  figures-refused h = sym (ap (λ t. cond t (Ok (figures_of m s us qs b)) (Err Margin)) ((λ i. int_le (sym e i +ℤ sym f i) most_margin) ∙ h))
+  figures_refused h = sym (ap (λ t. cond t (Ok (figures_of m s us qs b)) (Err Margin)) ((λ i. int_le (sym e i +ℤ sym f i) most_margin) ∙ h))
 
   -- they are not
-  pub figures-accepted : (a : Assessment) → int_le (portfolio +ℤ flat) most_margin ≡ true → a ≡ figures_of m s us qs b → Ok a ≡ unless_large (figures_of m s us qs b)
+  pub figures_accepted : (a : Assessment) → int_le (portfolio +ℤ flat) most_margin ≡ true → a ≡ figures_of m s us qs b → Ok a ≡ unless_large (figures_of m s us qs b)
   unfolding figures_of
-  figures-accepted a h q = ap Ok q ∙ sym (ap (λ t. cond t (Ok (figures_of m s us qs b)) (Err Margin)) ((λ i. int_le (sym e i +ℤ sym f i) most_margin) ∙ h))
+  figures_accepted a h q = ap Ok q ∙ sym (ap (λ t. cond t (Ok (figures_of m s us qs b)) (Err Margin)) ((λ i. int_le (sym e i +ℤ sym f i) most_margin) ∙ h))
 
-pub added-through : (p f : ℤ) → unsigned_abs p ≤ 2000000000000000000 → unsigned_abs f ≤ 2000000000000000000 → to_z w64 (of_z w64 (to_z w64 (of_z w64 p) +ℤ to_z w64 (of_z w64 f))) ≡ p +ℤ f
-added-through p f h k = omega (arith, ints)
+pub added_through : (p f : ℤ) → unsigned_abs p ≤ 2000000000000000000 → unsigned_abs f ≤ 2000000000000000000 → to_z w64 (of_z w64 (to_z w64 (of_z w64 p) +ℤ to_z w64 (of_z w64 f))) ≡ p +ℤ f
+added_through p f h k = omega (arith, ints)
 
 pub not_within : (a z : ℤ) → int_lt a z ≡ true → int_le z a ≡ false
 not_within a z h = grind (arith, ints)

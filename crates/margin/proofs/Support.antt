@@ -4,7 +4,7 @@ use Rattle.std.proofs.lemmas.Int.{ints}
 use Rattle.std.proofs.lemmas.Bool.{and_parts, leb-true}
 use Rattle.amounts.specs.Sums.{sum_of}
 use Rattle.amounts.specs.Sets.{In, Apart, Within}
-use Rattle.amounts.proofs.Support.{apart-counting, in-counting}
+use Rattle.amounts.proofs.Support.{apart_counting, in_counting}
 use Rattle.ledger.specs.declared.terms.Kind.{Kind}
 use Rattle.ledger.specs.declared.terms.Entry.{Entry}
 use Rattle.ledger.specs.declared.terms.Place.{Place}
@@ -46,11 +46,11 @@ ranged n e s =
 
 pub all_apart : Apart all_stocks
 unfolding all_stocks
-all_apart = apart-counting 1 99999
+all_apart = apart_counting 1 99999
 
 pub in_all : (x : ℕ) → 1 ≤ x → x ≤ 99999 → In x all_stocks
 unfolding all_stocks
-in_all x h k = in-counting 1 99999 x h (omega arith)
+in_all x h k = in_counting 1 99999 x h (omega arith)
 
 module _ (k : Kind) where
   key_held : (x : ℕ) (p : Place) → is_key x (stock_in k p) ≡ held_in k x p

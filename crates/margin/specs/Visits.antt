@@ -1,7 +1,7 @@
 -- How the code goes over the positions of a table: each key, as a stock of one kind or a flat rate, is visited at the last of
 -- the live entries that have it. Assumes nothing.
 use Rattle.std.specs.Prelude.{ℕ, Bool, false, cond, ◌||◌, List, [], ◌∷◌, Some, None, Option, ◌==◌}
-use Rattle.return_source.specs.Meaning.{Meaning, tier-of}
+use Rattle.return_source.specs.Meaning.{Meaning, tier_of}
 use Rattle.ledger.specs.declared.terms.Kind.{Kind}
 use Rattle.ledger.specs.declared.terms.Kind.TheVariants.{Stock}
 use Rattle.ledger.specs.declared.terms.Place.{Place}
@@ -40,7 +40,7 @@ visited key (p ∷ ps) = onto (last_key (key p) (λ q. any_key key q ps)) (visit
 
 -- the rate of a live entry's stock, where it stands in the flat tier
 abbrev pub flat_rate_of : Meaning → ℕ → Option ℕ
-flat_rate_of m x = cond (is_flat (tier-of m x)) (m.rate x) None
+flat_rate_of m x = cond (is_flat (tier_of m x)) (m.rate x) None
 
 abbrev pub rate_by : Meaning → Option ℕ → Option ℕ
 rate_by m None = None

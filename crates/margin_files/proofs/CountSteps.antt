@@ -4,7 +4,7 @@ use Rattle.std.proofs.lemmas.List.{at_drop_more, at_drop_all}
 use Rattle.std.proofs.lemmas.Bool.{cases_lt}
 use Rattle.std.proofs.lemmas.Bool.Decides.{nat_tests}
 use Rattle.parameter_text.specs.Digits.{digit, every, number}
-use Rattle.parameter_text.proofs.DigitSteps.{every_more, every-not, every-end}
+use Rattle.parameter_text.proofs.DigitSteps.{every_more, every_not, every_end}
 use Rattle.margin_files.specs.Numbers.{digit_value, count_of}
 use Rattle.margin_files.proofs.NumberSteps.{some_digit, no_digit}
 
@@ -51,11 +51,11 @@ module _ (xs : List ℕ) (i n : ℕ) (h : i < length xs) (s : CountedTo xs i n) 
 
   pub counted_to_not : digit_value (get_or xs i 0) ≡ None → None ≡ count_of xs
   counted_to_not e =
-      let no : every digit xs ≡ false = sym s.digits ∙ every-not digit xs i h (no_digit (get_or xs i 0) e) in
+      let no : every digit xs ≡ false = sym s.digits ∙ every_not digit xs i h (no_digit (get_or xs i 0) e) in
       grind (arith, nat_tests, no)
 
 pub counted_to_all : (xs : List ℕ) (i n : ℕ) → 1 ≤ length xs → length xs ≤ i → CountedTo xs i n → Some n ≡ count_of xs
 counted_to_all xs i n some end s =
-    let all : every digit xs ≡ true = sym s.digits ∙ every-end digit xs i end in
+    let all : every digit xs ≡ true = sym s.digits ∙ every_end digit xs i end in
     let value : n ≡ min (number 0 xs) greatest = (let cut : min n greatest ≡ n = omega (arith, s.fits) in sym cut ∙ ap (λ (k : ℕ). min k greatest) (sym (at_drop_all (number n) xs i end)) ∙ s.value) in
     grind (arith, nat_tests, all, value)

@@ -3,7 +3,7 @@ use Rattle.std.proofs.Common.{◌≡◌, ℕ, ◌+◌, ◌<◌, ◌≤◌, true,
 use Rattle.std.proofs.lemmas.List.{length-drop}
 use Rattle.std.proofs.lemmas.Bool.Decides.{nat_tests}
 use Rattle.std.specs.List.{prefix_len}
-use Rattle.parameter_text.specs.Cuts.{within-line, after_line, lines}
+use Rattle.parameter_text.specs.Cuts.{within_line, after_line, lines}
 use Rattle.margin_files.specs.declared.terms.JournalCall.{JournalCall}
 use Rattle.margin_files.specs.Journals.{call_of_line, call_before, calls_of, journal_check}
 
@@ -17,7 +17,7 @@ pub counted_none : (text : List ℕ) → Counted text text 0
 counted_none text = record { within = omega arith; calls = omega arith; all = omega arith }
 
 pub after_line_shorter : (left : List ℕ) → 0 < length left → length (after_line left) < length left
-after_line_shorter left h = omega (arith, length-drop (prefix_len within-line left + 1) left)
+after_line_shorter left h = omega (arith, length-drop (prefix_len within_line left + 1) left)
 
 some_left : (left line rest : List ℕ) → lines left ≡ line ∷ lines rest → 0 < length left
 some_left [] line rest e = absurd (let z : ◌≡◌ {A = List (List ℕ)} [] (line ∷ lines rest) = e in cc)

@@ -3,7 +3,7 @@ use Rattle.std.proofs.Common.{◌≡◌, ℕ, ◌+◌, ◌-◌, ◌*◌, ◌^◌
 use Rattle.std.proofs.lemmas.List.{at_drop_more, at_drop_all}
 use Rattle.std.proofs.lemmas.Bool.Decides.{nat_tests}
 use Rattle.parameter_text.specs.Digits.{digit, every, number}
-use Rattle.parameter_text.proofs.DigitSteps.{every_more, every-not, every-end, small-whole, room-step}
+use Rattle.parameter_text.proofs.DigitSteps.{every_more, every_not, every_end, small_whole, room_step}
 use Rattle.margin_files.specs.Numbers.{digit_value, whole_size}
 
 -- the digits read so far, and the number that they write
@@ -40,25 +40,25 @@ module _ (xs : List ℕ) (i n : ℕ) (few : length xs ≤ 18) (h : i < length xs
       record {
         digits = sym (every_more digit xs i h is.0) ∙ s.digits;
         value = ap (λ (k : ℕ). number (n * 10 + k) (drop (i + 1) xs)) is.1 ∙ step;
-        small = rw less (room-step n (18 - i) d (omega arith) nine s.small);
+        small = rw less (room_step n (18 - i) d (omega arith) nine s.small);
       }
 
   pub so_far_fits : n * 10 + 9 < 10000000000000000000
-  so_far_fits = let w = small-whole n (18 - i) s.small in omega (arith, w)
+  so_far_fits = let w = small_whole n (18 - i) s.small in omega (arith, w)
 
   pub so_far_not : digit_value (get_or xs i 0) ≡ None → None ≡ whole_size xs
   so_far_not e =
-      let no : every digit xs ≡ false = sym s.digits ∙ every-not digit xs i h (no_digit (get_or xs i 0) e) in
+      let no : every digit xs ≡ false = sym s.digits ∙ every_not digit xs i h (no_digit (get_or xs i 0) e) in
       grind (arith, nat_tests, no)
 
 pub so_far_all : (xs : List ℕ) (i n : ℕ) → 1 ≤ length xs → length xs ≤ 18 → length xs ≤ i → SoFar xs i n → Some n ≡ whole_size xs
 so_far_all xs i n some few end s =
-    let all : every digit xs ≡ true = sym s.digits ∙ every-end digit xs i end in
+    let all : every digit xs ≡ true = sym s.digits ∙ every_end digit xs i end in
     let value : n ≡ number 0 xs = sym (at_drop_all (number n) xs i end) ∙ s.value in
     grind (arith, nat_tests, all, value)
 
 pub so_far_bound : (xs : List ℕ) (i n : ℕ) → SoFar xs i n → n + 1 ≤ 10 ^ 18
-so_far_bound xs i n s = let w = small-whole n (18 - i) s.small in omega (arith, w)
+so_far_bound xs i n s = let w = small_whole n (18 - i) s.small in omega (arith, w)
 
 pub not_sized : (xs : List ℕ) → length xs ≡ 0 → None ≡ whole_size xs
 not_sized xs e = grind (arith, nat_tests)

@@ -1,7 +1,7 @@
 -- The numbers of settings and journals. Assumes nothing.
 use Rattle.std.specs.Prelude.{ℕ, ◌-◌, cond, ◌&&◌, List, length, min, ℤ, pos, negsuc, Some, None, Ok, Err, Option, Result, ◌==◌, nat_le, option_map, option_and_then, unsigned_abs, int_div, int_rem}
 use Rattle.parameter_text.specs.Digits.{digit, every, number}
-use Rattle.parameter_text.specs.Decimals.{decimal, signed, minus-in, unsigned-in}
+use Rattle.parameter_text.specs.Decimals.{decimal, signed, minus_in, unsigned_in}
 
 abbrev pub digit_value : ℕ → Option ℕ
 digit_value b = cond (digit b) (Some (b - 48)) None
@@ -12,7 +12,7 @@ whole_size ds = cond (nat_le 1 (length ds) && (nat_le (length ds) 18 && every di
 
 -- a whole number: an optional minus and one to eighteen digits
 unfoldable pub whole_number : List ℕ → Option ℤ
-whole_number cell = option_map (signed (minus-in cell)) (whole_size (unsigned-in cell))
+whole_number cell = option_map (signed (minus_in cell)) (whole_size (unsigned_in cell))
 
 -- what was judged well
 abbrev pub passed : {X E : Type 0} → Result X E → Option X

@@ -1,6 +1,6 @@
 // The numbers of settings and journals: whole numbers, and decimals in the form of the parameter file's.
 ghost use Rattle.std.specs.Prelude.{◌≡◌, ◌+◌, ◌^◌, ◌≤◌, ◌≤ℤ◌, pos, neg_ℤ, IfSome, option_map};
-ghost use Rattle.parameter_text.specs.Decimals.{signed, minus-in, unsigned-in};
+ghost use Rattle.parameter_text.specs.Decimals.{signed, minus_in, unsigned_in};
 ghost use Rattle.margin_files.specs.Numbers.{digit_value, whole_size, whole_number as whole_number_of, or_greatest, hundreds as hundreds_of, four_places as four_places_of, two_places as two_places_of, rate_of, count_of};
 
 use parameter_text::{DecimalRule, Places};
@@ -42,8 +42,8 @@ fn whole_size(digits: &[u8]) -> Option<u64>
 
 // Is there a minus, and what follows it.
 fn sign(cell: &[u8]) -> (bool, &[u8])
-    ensures minus { result.0 ≡ minus-in cell.now }
-    ensures rest { result.1.now ≡ unsigned-in cell.now }
+    ensures minus { result.0 ≡ minus_in cell.now }
+    ensures rest { result.1.now ≡ unsigned_in cell.now }
 {
     match cell {
         [b'-', rest @ ..] => (true, rest),

@@ -5,10 +5,10 @@ use Rattle.std.proofs.lemmas.Int.{ints}
 use Rattle.amounts.specs.Sums.{sum_of, count}
 use Rattle.amounts.specs.Tails.{Near, tail_sum}
 use Rattle.amounts.specs.Rounding.{round_off}
-use Rattle.amounts.proofs.Whole.{addZ-mul, mulZ-assoc, zero-product, count-split}
-use Rattle.amounts.proofs.Near.{Off, off-as, off-more, off-trans, off-add, off-neg, off-max, off-mul, off-scale, off-into, off-same, off-sum, off-when, off_tail, off-is, half, rounded}
-use Rattle.amounts.proofs.Round.{round-off-near}
-use Rattle.amounts.proofs.Close.{close-low, close-high}
+use Rattle.amounts.proofs.Whole.{add_z_mul, mul_z_assoc, zero_product, count_split}
+use Rattle.amounts.proofs.Near.{Off, off_as, off_more, off_trans, off_add, off_neg, off_max, off_mul, off_scale, off_into, off_same, off_sum, off_when, off_tail, off_is, half, rounded}
+use Rattle.amounts.proofs.Round.{round_off_near}
+use Rattle.amounts.proofs.Close.{close_low, close_high}
 use Rattle.return_source.specs.declared.terms.ScenarioSet.{ScenarioSet}
 use Rattle.return_source.specs.declared.terms.ScenarioSet.TheVariants.{Historical, Stress}
 use Rattle.return_source.specs.Meaning.{Meaning}
@@ -52,10 +52,10 @@ held_alone t = record { none = λ k x e. go k x t e }
     go k x (Cancelled n ∷ t) e = omega (arith, ints, go k x t e)
 
 product_near : (h : Bool) (a c : ℤ) → (h ≡ false → a ≡ pos 0) → Off (10 ^ 8 * cond h 1 0) (2 * 10 ^ 8) 2 (rounded_product a c) (a *ℤ c)
-product_near true a c k = record { near = round-off-near (10 ^ 8) (a *ℤ c) (lit< tt) }
+product_near true a c k = record { near = round_off_near (10 ^ 8) (a *ℤ c) (lit< tt) }
 product_near false a c k =
-    let e : a *ℤ c ≡ pos 0 = zero-product a c (k refl) in
-    off-same _ _ (ap (λ z. pos (2 * 10 ^ 8) *ℤ round_off (10 ^ 8) z) e ∙ sym (ap (λ z. pos 2 *ℤ z) e))
+    let e : a *ℤ c ≡ pos 0 = zero_product a c (k refl) in
+    off_same _ _ (ap (λ z. pos (2 * 10 ^ 8) *ℤ round_off (10 ^ 8) z) e ∙ sym (ap (λ z. pos 2 *ℤ z) e))
 
 group : (k u a b c : ℕ) → a + b ≡ c → k * (u * a) + k * u * b ≡ k * (u * c)
 group k u a b c e = omega (arith, mul_assoc k u b, mul-add k (u * a) (u * b), ap (λ j. k * j) (mul-add u a b), ap (λ j. k * (u * j)) e)
@@ -79,21 +79,21 @@ module _ (m : Meaning) (s : Settings) (us qs : List ℕ) (ok : Lawful m) (mv : �
   common_near : (w : ScenarioSet) → Off ((scenarios m w).tail * (10 ^ 8 * count (λ x. is_common m s x && held x) us)) (2 * 10 ^ 8) 2 (tail_sum (scenarios m w).tail (common_totals rounded_product m s us w mv)) (tail_sum (scenarios m w).tail (common_totals ◌*ℤ◌ m s us w mv))
   common_near w =
       off_tail (scenarios m w).tail (scenarios m w).count (tail_within m ok w)
-      (λ i. off-sum (10 ^ 8) (λ x. is_common m s x && held x) us (λ x. off-when (10 ^ 8) (is_common m s x) (held x) (product_near (held x) (mv x) (return_at (m.returns w x) i) (alone x))))
+      (λ i. off_sum (10 ^ 8) (λ x. is_common m s x && held x) us (λ x. off_when (10 ^ 8) (is_common m s x) (held x) (product_near (held x) (mv x) (return_at (m.returns w x) i) (alone x))))
 
   own_near : (w : ScenarioSet) (x : ℕ) → Off ((scenarios m w).tail * 10 ^ 8 * cond (held x) 1 0) (2 * 10 ^ 8) 2 (tail_sum (scenarios m w).tail (own_totals rounded_product m w mv x)) (tail_sum (scenarios m w).tail (own_totals ◌*ℤ◌ m w mv x))
   own_near w x =
-      off-as (sym (mul_assoc (scenarios m w).tail (10 ^ 8) (cond (held x) 1 0))) refl refl
+      off_as (sym (mul_assoc (scenarios m w).tail (10 ^ 8) (cond (held x) 1 0))) refl refl
       (off_tail (scenarios m w).tail (scenarios m w).count (tail_within m ok w) (λ i. product_near (held x) (mv x) (return_at (m.returns w x) i) (alone x)))
 
   tails_near : (w : ScenarioSet) → Off ((scenarios m w).tail * (10 ^ 8 * n)) (2 * 10 ^ 8) 2 (tails_of rounded_product m s us w mv) (tails_of ◌*ℤ◌ m s us w mv)
   unfolding all_figures
   tails_near w =
-      off-as bound refl refl
-      (off-add (common_near w) (off-sum ((scenarios m w).tail * 10 ^ 8) (λ x. is_own m s x && held x) us (λ x. off-when ((scenarios m w).tail * 10 ^ 8) (is_own m s x) (held x) (own_near w x))))
+      off_as bound refl refl
+      (off_add (common_near w) (off_sum ((scenarios m w).tail * 10 ^ 8) (λ x. is_own m s x && held x) us (λ x. off_when ((scenarios m w).tail * 10 ^ 8) (is_own m s x) (held x) (own_near w x))))
     where
       bound : (scenarios m w).tail * (10 ^ 8 * count (λ x. is_common m s x && held x) us) + (scenarios m w).tail * 10 ^ 8 * count (λ x. is_own m s x && held x) us ≡ (scenarios m w).tail * (10 ^ 8 * n)
-      bound = group (scenarios m w).tail (10 ^ 8) _ _ n (count-split (in_portfolio m) (is_ipo s) held us)
+      bound = group (scenarios m w).tail (10 ^ 8) _ _ n (count_split (in_portfolio m) (is_ipo s) held us)
 
   abbrev both : ℕ
   both = both_tails m
@@ -101,45 +101,45 @@ module _ (m : Meaning) (s : Settings) (us qs : List ℕ) (ok : Lawful m) (mv : �
   loss_near : Off (10 ^ 4 * (both * (10 ^ 8 * n))) (2 * 10 ^ 8) 2 (loss_of rounded_product m s us mv) (loss_of ◌*ℤ◌ m s us mv)
   unfolding all_figures
   loss_near =
-      off-as (weighted m.parameters.historical.weight.ten_thousandths m.parameters.stress.weight.ten_thousandths m.parameters.historical.tail m.parameters.stress.tail (10 ^ 8 * n) ok.parameters.whole) refl refl
-      (off-neg (off-add (off-mul (m.parameters.historical.weight.ten_thousandths * m.parameters.stress.tail) (tails_near Historical)) (off-mul (m.parameters.stress.weight.ten_thousandths * m.parameters.historical.tail) (tails_near Stress))))
+      off_as (weighted m.parameters.historical.weight.ten_thousandths m.parameters.stress.weight.ten_thousandths m.parameters.historical.tail m.parameters.stress.tail (10 ^ 8 * n) ok.parameters.whole) refl refl
+      (off_neg (off_add (off_mul (m.parameters.historical.weight.ten_thousandths * m.parameters.stress.tail) (tails_near Historical)) (off_mul (m.parameters.stress.weight.ten_thousandths * m.parameters.historical.tail) (tails_near Stress))))
 
   greater_near : Off (10 ^ 4 * (both * (10 ^ 8 * n))) (2 * 10 ^ 8) 2 (int_max (loss_of rounded_product m s us mv) (floor_of m s us mv)) (exact_portfolio m s us mv)
   unfolding all_figures
-  greater_near = off-max loss_near (off-same _ _ (mulZ-assoc 2 (10 ^ 8) (floor_of m s us mv)))
+  greater_near = off_max loss_near (off_same _ _ (mul_z_assoc 2 (10 ^ 8) (floor_of m s us mv)))
 
   both_some : 0 < both
-  both_some = omega (arith, mul-le-mul ok.parameters.historical.tail-some ok.parameters.stress.tail-some)
+  both_some = omega (arith, mul-le-mul ok.parameters.historical.tail_some ok.parameters.stress.tail_some)
 
   -- over 10^12 times both tail counts
   portfolio_near : Off (10 ^ 12 * both * (n + 1)) (2 * (10 ^ 12 * both)) 2 (portfolio_margin m s us mv) (exact_portfolio m s us mv)
   unfolding all_figures
   portfolio_near =
-      off-as (one_more both n) (omega arith) refl (off-trans (off-scale (10 ^ 8) (rounded (10 ^ 4 * both) (int_max (loss_of rounded_product m s us mv) (floor_of m s us mv)) (omega (arith, both_some)))) greater_near)
+      off_as (one_more both n) (omega arith) refl (off_trans (off_scale (10 ^ 8) (rounded (10 ^ 4 * both) (int_max (loss_of rounded_product m s us mv) (floor_of m s us mv)) (omega (arith, both_some)))) greater_near)
 
   flat_near : Off (10 ^ 12 * both) (2 * (10 ^ 12 * both)) 2 (flat_margin m s us qs mv) (pos (10 ^ 6 * both) *ℤ flat_of m s us qs mv)
   unfolding all_figures
-  flat_near = off-into (10 ^ 6 * both) (off-as (omega arith) (omega arith) (omega arith) (off-scale (10 ^ 6 * both) (rounded (10 ^ 6) (flat_of m s us qs mv) (lit< tt))))
+  flat_near = off_into (10 ^ 6 * both) (off_as (omega arith) (omega arith) (omega arith) (off_scale (10 ^ 6 * both) (rounded (10 ^ 6) (flat_of m s us qs mv) (lit< tt))))
 
   charged_near : Off (10 ^ 12 * both * (n + 2)) (2 * (10 ^ 12 * both)) 2 (charged m s us qs mv) (exact_charged m s us qs mv)
   unfolding all_figures
-  charged_near = off-as (omega (arith, mul-add (10 ^ 12 * both) n 1, mul-add (10 ^ 12 * both) n 2)) refl refl (off-add portfolio_near flat_near)
+  charged_near = off_as (omega (arith, mul-add (10 ^ 12 * both) n 1, mul-add (10 ^ 12 * both) n 2)) refl refl (off_add portfolio_near flat_near)
 
   main_near : Off (scale m * (n + 2)) (2 * scale m) 2 (charged m s us qs mv) (pos (10 ^ 10) *ℤ exact_charged m s us qs mv)
-  main_near = off-into (10 ^ 10) (off-as (omega (arith, mul_assoc (10 ^ 12) both (n + 2), mul_assoc (10 ^ 22) both (n + 2))) (omega arith) refl (off-scale (10 ^ 10) charged_near))
+  main_near = off_into (10 ^ 10) (off_as (omega (arith, mul_assoc (10 ^ 12) both (n + 2), mul_assoc (10 ^ 22) both (n + 2))) (omega arith) refl (off_scale (10 ^ 10) charged_near))
 
   holiday_near : Off (scale m * (n + 3)) (2 * scale m) 2 (holiday_margin m s us qs mv) (pos m.parameters.holiday_factor *ℤ exact_charged m s us qs mv)
   unfolding all_figures
   holiday_near =
-      off-more (scale m * (n + 3)) bound
-      (off-as refl (omega arith) refl (off-trans (off-as refl refl (omega arith) (off-scale (10 ^ 12 * both) (rounded (10 ^ 10) (pos m.parameters.holiday_factor *ℤ charged m s us qs mv) (lit< tt)))) (off-mul m.parameters.holiday_factor charged_near)))
+      off_more (scale m * (n + 3)) bound
+      (off_as refl (omega arith) refl (off_trans (off_as refl refl (omega arith) (off_scale (10 ^ 12 * both) (rounded (10 ^ 10) (pos m.parameters.holiday_factor *ℤ charged m s us qs mv) (lit< tt)))) (off_mul m.parameters.holiday_factor charged_near)))
     where
       bound : 10 ^ 12 * both * 10 ^ 10 + m.parameters.holiday_factor * (10 ^ 12 * both * (n + 2)) ≤ scale m * (n + 3)
       bound = omega (arith, mul-le-mul_right (10 ^ 12 * both * (n + 2)) ok.parameters.factor, mul_assoc (10 ^ 12) both (n + 2), mul_assoc (10 ^ 22) both (n + 3), mul-add both n 2, mul-add both n 3)
 
 corporate_near : (m : Meaning) (us : List ℕ) (mv : Kind → ℕ → ℤ) → Off (scale m) (2 * scale m) 2 (corporate_margin m us mv) (pos (10 ^ 18 * both_tails m) *ℤ corporate_of m us mv)
 unfolding all_figures
-corporate_near m us mv = off-into (10 ^ 18 * both_tails m) (off-as (omega arith) (omega arith) (omega arith) (off-scale (10 ^ 18 * both_tails m) (rounded (10 ^ 4) (corporate_of m us mv) (lit< tt))))
+corporate_near m us mv = off_into (10 ^ 18 * both_tails m) (off_as (omega arith) (omega arith) (omega arith) (off_scale (10 ^ 18 * both_tails m) (rounded (10 ^ 4) (corporate_of m us mv) (lit< tt))))
 
 module _ (m : Meaning) (s : Settings) (us qs : List ℕ) (ok : Lawful m) (b : Book) (alone : HeldAlone b) where
   abbrev k : ℕ
@@ -149,18 +149,18 @@ module _ (m : Meaning) (s : Settings) (us qs : List ℕ) (ok : Lawful m) (b : Bo
   unfolding all_figures
   aggregate_near =
       half _ (scale m) _ _
-      (off-is join
-      (off-as bound refl refl
-      (off-add (off-add (off-add (main_near m s us qs ok (b.market Stock) (b.held Stock) (alone.none Stock)) (corporate_near m us b.market)) (holiday_near m s us qs ok (b.market Stock) (b.held Stock) (alone.none Stock))) inside)))
+      (off_is join
+      (off_as bound refl refl
+      (off_add (off_add (off_add (main_near m s us qs ok (b.market Stock) (b.held Stock) (alone.none Stock)) (corporate_near m us b.market)) (holiday_near m s us qs ok (b.market Stock) (b.held Stock) (alone.none Stock))) inside)))
     where
       inside : Off 0 (2 * scale m) 2 (pos (given_inside s)) (pos (scale m * given_inside s))
-      inside = off-same _ _ (ap pos (mul_assoc 2 (scale m) (given_inside s)))
+      inside = off_same _ _ (ap pos (mul_assoc 2 (scale m) (given_inside s)))
 
       bound : scale m * (k + 2) + scale m + scale m * (k + 3) + 0 ≡ 2 * (scale m * (k + 3))
       bound = omega (arith, mul-add (scale m) k 2, mul-add (scale m) k 3)
 
       join : pos (10 ^ 10) *ℤ exact_charged m s us qs (b.market Stock) +ℤ pos (10 ^ 18 * both_tails m) *ℤ corporate_of m us b.market +ℤ pos m.parameters.holiday_factor *ℤ exact_charged m s us qs (b.market Stock) +ℤ pos (scale m * given_inside s) ≡ exact_aggregate m s us qs b
-      join = omega (arith, ints, addZ-mul (pos (10 ^ 10)) (pos m.parameters.holiday_factor) (exact_charged m s us qs (b.market Stock)))
+      join = omega (arith, ints, add_z_mul (pos (10 ^ 10)) (pos m.parameters.holiday_factor) (exact_charged m s us qs (b.market Stock)))
 
 -- the answered figures are those over all stocks and rates
 pub answered_figures : (m : Meaning) (s : Settings) (b : Book) (l : Room) (a : Assessment) → assessment m s b l ≡ Ok a → figures_of m s all_stocks all_rates b ≡ a
@@ -182,8 +182,8 @@ pub figures_close : (m : Meaning) → Lawful m → (s : Settings) (us qs : List 
     ((pos (scale m) *ℤ total_margin m s us qs b) ≤ℤ (unrounded_of m s us qs b +ℤ pos (scale m) *ℤ pos (portfolio_positions m us b.held + 2 + m.parameters.step)))
 unfolding all_figures
 figures_close m ok s us qs b alone = (
-  close-low (scale m) (portfolio_positions m us b.held) m.parameters.step s.credit (given_beside s) (aggregate_margin m s us qs b) (exact_aggregate m s us qs b) b.mark ok.parameters.step-some (aggregate_near m s us qs ok b alone),
-  close-high (scale m) (portfolio_positions m us b.held) m.parameters.step s.credit (given_beside s) (aggregate_margin m s us qs b) (exact_aggregate m s us qs b) b.mark ok.parameters.step-some (aggregate_near m s us qs ok b alone),
+  close_low (scale m) (portfolio_positions m us b.held) m.parameters.step s.credit (given_beside s) (aggregate_margin m s us qs b) (exact_aggregate m s us qs b) b.mark ok.parameters.step_some (aggregate_near m s us qs ok b alone),
+  close_high (scale m) (portfolio_positions m us b.held) m.parameters.step s.credit (given_beside s) (aggregate_margin m s us qs b) (exact_aggregate m s us qs b) b.mark ok.parameters.step_some (aggregate_near m s us qs ok b alone),
 )
 
 pub at_figures : (m : Meaning) → Lawful m → (s : Settings) (places : ℕ) (calls : List Call) → StaysClose m s places calls (figures_of m s all_stocks all_rates (book (runs places calls [])))

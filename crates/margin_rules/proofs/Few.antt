@@ -11,13 +11,13 @@ use Rattle.amounts.specs.Tails.{tail_sum}
 use Rattle.amounts.specs.Rounding.{round_off, round_up_int}
 use Rattle.amounts.specs.Charges.{long, short, sided, due}
 use Rattle.amounts.specs.Sets.{In, Apart, Within}
-use Rattle.amounts.proofs.Near.{tail-zero}
-use Rattle.amounts.proofs.Whole.{when-zero}
-use Rattle.amounts.proofs.Charge.{zero-sided}
-use Rattle.amounts.proofs.Support.{sum-support, sum-zero, apart-counting, in-counting}
+use Rattle.amounts.proofs.Near.{tail_zero}
+use Rattle.amounts.proofs.Whole.{when_zero}
+use Rattle.amounts.proofs.Charge.{zero_sided}
+use Rattle.amounts.proofs.Support.{sum_support, sum_zero, apart_counting, in_counting}
 use Rattle.return_source.specs.declared.terms.ScenarioSet.{ScenarioSet}
 use Rattle.return_source.specs.declared.terms.ScenarioSet.TheVariants.{Historical, Stress}
-use Rattle.return_source.specs.Meaning.{Meaning, tier-of}
+use Rattle.return_source.specs.Meaning.{Meaning, tier_of}
 use Rattle.return_source.specs.Lawful.{Lawful}
 use Rattle.ledger.specs.declared.terms.Kind.{Kind}
 use Rattle.ledger.specs.declared.terms.Kind.TheVariants.{Stock}
@@ -62,7 +62,7 @@ pub record SomeOf (ks us : List ℕ) : Type 0 where
   pub within : Within ks us
 
 pub few_sum : (ks us : List ℕ) → SomeOf ks us → (f : ℕ → ℤ) → ((x : ℕ) → (In x ks → ⊥) → f x ≡ pos 0) → sum_of f ks ≡ sum_of f us
-few_sum ks us o f z = sum-support f ks us o.apart o.apart_all o.within (λ u i n. z u n)
+few_sum ks us o f z = sum_support f ks us o.apart o.apart_all o.within (λ u i n. z u n)
 
 pub few_count : (ks us : List ℕ) → SomeOf ks us → (p : ℕ → Bool) → ((x : ℕ) → (In x ks → ⊥) → p x ≡ false) → count p ks ≡ count p us
 few_count ks us o p z = pos_same (count p ks) (count p us) (count_sum p ks ∙ few_sum ks us o (λ x. pos (cond (p x) 1 0)) (λ x n. ap (λ b. pos (cond b 1 0)) (z x n)) ∙ sym (count_sum p us))
@@ -83,8 +83,8 @@ module _ (m : Meaning) (ok : TailsWithin m) (s : Settings) (ks us : List ℕ) (o
   pub few_side : (member : ℕ → Bool) → side_of ks member mv ≡ side_of us member mv
   unfolding all_figures
   few_side member =
-      ap₂ int_max (few_sum ks us o (λ x. when (member x) (long (mv x))) (λ x n. when-zero (member x) (long (mv x)) (ap long (others x n))))
-      (few_sum ks us o (λ x. when (member x) (short (mv x))) (λ x n. when-zero (member x) (short (mv x)) (ap short (others x n))))
+      ap₂ int_max (few_sum ks us o (λ x. when (member x) (long (mv x))) (λ x n. when_zero (member x) (long (mv x)) (ap long (others x n))))
+      (few_sum ks us o (λ x. when (member x) (short (mv x))) (λ x n. when_zero (member x) (short (mv x)) (ap short (others x n))))
 
   module _ (times : ℤ → ℤ → ℤ) (null : Null times) where
     gone : (x : ℕ) (c : ℤ) → (In x ks → ⊥) → times (mv x) c ≡ pos 0
@@ -93,13 +93,13 @@ module _ (m : Meaning) (ok : TailsWithin m) (s : Settings) (ks us : List ℕ) (o
     pub few_common : (w : ScenarioSet) → common_totals times m s ks w mv ≡ common_totals times m s us w mv
     few_common w =
         ap (λ f. map f (range_with_len 0 (scenarios m w).count))
-        (fun_ext (λ i. few_sum ks us o (λ x. when (is_common m s x) (times (mv x) (return_at (m.returns w x) i))) (λ x n. when-zero (is_common m s x) (times (mv x) (return_at (m.returns w x) i)) (gone x (return_at (m.returns w x) i) n))))
+        (fun_ext (λ i. few_sum ks us o (λ x. when (is_common m s x) (times (mv x) (return_at (m.returns w x) i))) (λ x n. when_zero (is_common m s x) (times (mv x) (return_at (m.returns w x) i)) (gone x (return_at (m.returns w x) i) n))))
 
     pub own_zero : (w : ScenarioSet) (x : ℕ) → (In x ks → ⊥) → tail_sum (scenarios m w).tail (own_totals times m w mv x) ≡ pos 0
-    own_zero w x n = tail-zero (scenarios m w).tail (scenarios m w).count (λ i. times (mv x) (return_at (m.returns w x) i)) (ok.at w) (λ i. gone x (return_at (m.returns w x) i) n)
+    own_zero w x n = tail_zero (scenarios m w).tail (scenarios m w).count (λ i. times (mv x) (return_at (m.returns w x) i)) (ok.at w) (λ i. gone x (return_at (m.returns w x) i) n)
 
     pub few_own : (w : ScenarioSet) → sum_of (λ x. when (is_own m s x) (tail_sum (scenarios m w).tail (own_totals times m w mv x))) ks ≡ sum_of (λ x. when (is_own m s x) (tail_sum (scenarios m w).tail (own_totals times m w mv x))) us
-    few_own w = few_sum ks us o (λ x. when (is_own m s x) (tail_sum (scenarios m w).tail (own_totals times m w mv x))) (λ x n. when-zero (is_own m s x) (tail_sum (scenarios m w).tail (own_totals times m w mv x)) (own_zero w x n))
+    few_own w = few_sum ks us o (λ x. when (is_own m s x) (tail_sum (scenarios m w).tail (own_totals times m w mv x))) (λ x n. when_zero (is_own m s x) (tail_sum (scenarios m w).tail (own_totals times m w mv x)) (own_zero w x n))
 
     pub few_tails : (w : ScenarioSet) → tails_of times m s ks w mv ≡ tails_of times m s us w mv
     unfolding all_figures
@@ -122,7 +122,7 @@ module _ (m : Meaning) (ok : TailsWithin m) (s : Settings) (ks us : List ℕ) (o
   few_exact_portfolio = ap₂ (λ l f. int_max l (pos (10 ^ 8) *ℤ f)) (few_loss ◌*ℤ◌ null_product) few_floor
 
   -- the rates qs are those of the stocks ks, and some of the rates ps
-  module _ (qs ps : List ℕ) (r : SomeOf qs ps) (rates : (x q : ℕ) → In x ks → is_flat (tier-of m x) ≡ true → m.rate x ≡ Some q → In q qs) where
+  module _ (qs ps : List ℕ) (r : SomeOf qs ps) (rates : (x q : ℕ) → In x ks → is_flat (tier_of m x) ≡ true → m.rate x ≡ Some q → In q qs) where
     rate_is : (q : ℕ) (t : Option ℕ) → is_rate q t ≡ true → t ≡ Some q
     rate_is q None e = let z : ◌≡◌ {A = ℕ} 0 1 = cc in absurd (omega arith)
     rate_is q (Some p) e = ap Some (sym (eqb-true q p e))
@@ -132,15 +132,15 @@ module _ (m : Meaning) (ok : TailsWithin m) (s : Settings) (ks us : List ℕ) (o
     no_side q n = ap₂ int_max (zero_of long) (zero_of short)
       where
         not_flat : (x : ℕ) → In x ks → at_rate m q x ≡ false
-        not_flat x i = go (is_flat (tier-of m x)) refl (is_rate q (m.rate x)) refl
+        not_flat x i = go (is_flat (tier_of m x)) refl (is_rate q (m.rate x)) refl
           where
-            go : (a : Bool) → is_flat (tier-of m x) ≡ a → (b : Bool) → is_rate q (m.rate x) ≡ b → (a && b) ≡ false
+            go : (a : Bool) → is_flat (tier_of m x) ≡ a → (b : Bool) → is_rate q (m.rate x) ≡ b → (a && b) ≡ false
             go true e true f = absurd (n (rates x q i e (rate_is q (m.rate x) f)))
             go true e false f = refl
             go false e b f = refl
 
         zero_of : (one : ℤ → ℤ) → sum_of (λ x. when (at_rate m q x) (one (mv x))) ks ≡ pos 0
-        zero_of one = sum-zero (λ x. when (at_rate m q x) (one (mv x))) ks (λ x i. ap (λ t. when t (one (mv x))) (not_flat x i))
+        zero_of one = sum_zero (λ x. when (at_rate m q x) (one (mv x))) ks (λ x i. ap (λ t. when t (one (mv x))) (not_flat x i))
 
     pub few_flat : flat_of m s ks qs mv ≡ flat_of m s us ps mv
     unfolding all_figures
@@ -159,24 +159,24 @@ module _ (ks : Kind → List ℕ) (us : List ℕ) (o : (k : Kind) → SomeOf (ks
   few_corporate m =
       ap (λ f. sum_of f entitlement_kinds)
       (fun_ext (λ k. few_sum (ks k) us (o k) (λ x. sided (long_percentage (entitlement_of m k x)) (short_percentage (entitlement_of m k x)) (mv k x))
-      (λ x n. ap (sided (long_percentage (entitlement_of m k x)) (short_percentage (entitlement_of m k x))) (others k x n) ∙ zero-sided (long_percentage (entitlement_of m k x)) (short_percentage (entitlement_of m k x)))))
+      (λ x n. ap (sided (long_percentage (entitlement_of m k x)) (short_percentage (entitlement_of m k x))) (others k x n) ∙ zero_sided (long_percentage (entitlement_of m k x)) (short_percentage (entitlement_of m k x)))))
 
 -- ---- all figures over few stocks and rates
 pub apart_stocks : Apart all_stocks
 unfolding all_stocks
-apart_stocks = apart-counting 1 99999
+apart_stocks = apart_counting 1 99999
 
 pub apart_rates : Apart all_rates
 unfolding all_rates
-apart_rates = apart-counting 0 10001
+apart_rates = apart_counting 0 10001
 
 pub stock_in : (x : ℕ) → 1 ≤ x → x ≤ 99999 → In x all_stocks
 unfolding all_stocks
-stock_in x h k = in-counting 1 99999 x h (omega arith)
+stock_in x h k = in_counting 1 99999 x h (omega arith)
 
 pub rate_in : (q : ℕ) → q ≤ 10000 → In q all_rates
 unfolding all_rates
-rate_in q k = in-counting 0 10001 q (omega arith) (omega arith)
+rate_in q k = in_counting 0 10001 q (omega arith) (omega arith)
 
 -- ks and qs hold every stock with a position and every flat rate of one
 pub record Holds (m : Meaning) (ks qs : List ℕ) (b : Book) : Type 0 where
@@ -185,7 +185,7 @@ pub record Holds (m : Meaning) (ks qs : List ℕ) (b : Book) : Type 0 where
   pub stocks_within : Within ks all_stocks
   pub rates_within : Within qs all_rates
   pub others : (k : Kind) (x : ℕ) → (In x ks → ⊥) → b.held k x ≡ false
-  pub rates : (x q : ℕ) → In x ks → is_flat (tier-of m x) ≡ true → m.rate x ≡ Some q → In q qs
+  pub rates : (x q : ℕ) → In x ks → is_flat (tier_of m x) ≡ true → m.rate x ≡ Some q → In q qs
 
 module _ (m : Meaning) (ok : TailsWithin m) (s : Settings) (b : Book) (alone : HeldAlone b) (ks qs : List ℕ) (h : Holds m ks qs b) where
   stocks : SomeOf ks all_stocks

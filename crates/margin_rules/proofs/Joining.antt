@@ -4,10 +4,10 @@ use Rattle.std.specs.List.Sorted.{IsPermutation}
 use Rattle.std.proofs.lemmas.Int.{ints}
 use Rattle.amounts.specs.Sums.{sum_of}
 use Rattle.amounts.specs.Tails.{tail_sum}
-use Rattle.amounts.proofs.Whole.{mulZ-add, sumOf-append, when-mul, sum-adds}
-use Rattle.amounts.proofs.Near.{Under, Over, when-under, when-over, sum-under, sum_over, mul-under, mul-over, max-under, add-under, add-over, neg-under, tail-map, pos-under}
-use Rattle.amounts.proofs.Charge.{long-adds, short-adds, sided-under, due-under}
-use Rattle.amounts.proofs.Permuted.{sum-shuffled}
+use Rattle.amounts.proofs.Whole.{mul_z_add, sum_of_append, when_mul, sum_adds}
+use Rattle.amounts.proofs.Near.{Under, Over, when_under, when_over, sum_under, sum_over, mul_under, mul_over, max_under, add_under, add_over, neg_under, tail_map, pos_under}
+use Rattle.amounts.proofs.Charge.{long_adds, short_adds, sided_under, due_under}
+use Rattle.amounts.proofs.Permuted.{sum_shuffled}
 use Rattle.return_source.specs.declared.terms.ScenarioSet.{ScenarioSet}
 use Rattle.return_source.specs.declared.terms.ScenarioSet.TheVariants.{Historical, Stress}
 use Rattle.return_source.specs.Meaning.{Meaning}
@@ -34,42 +34,42 @@ tail_within m ok Stress = ok.parameters.stress.tail_within
 module _ (m : Meaning) (s : Settings) (us qs : List ℕ) (ok : Lawful m) (f g h : ℕ → ℤ) (e : (x : ℕ) → h x ≡ f x +ℤ g x) where
   common_over : (w : ScenarioSet) → Over (tail_sum (scenarios m w).tail (common_totals ◌*ℤ◌ m s us w h)) (tail_sum (scenarios m w).tail (common_totals ◌*ℤ◌ m s us w f)) (tail_sum (scenarios m w).tail (common_totals ◌*ℤ◌ m s us w g))
   common_over w =
-      tail-map (scenarios m w).tail (scenarios m w).count _ _ _ (tail_within m ok w)
-      (λ i. sum-adds _ _ _ us (λ x. when-mul (is_common m s x) (h x) (f x) (g x) (return_at (m.returns w x) i) (e x)))
+      tail_map (scenarios m w).tail (scenarios m w).count _ _ _ (tail_within m ok w)
+      (λ i. sum_adds _ _ _ us (λ x. when_mul (is_common m s x) (h x) (f x) (g x) (return_at (m.returns w x) i) (e x)))
 
   own_over : (w : ScenarioSet) (x : ℕ) → Over (tail_sum (scenarios m w).tail (own_totals ◌*ℤ◌ m w h x)) (tail_sum (scenarios m w).tail (own_totals ◌*ℤ◌ m w f x)) (tail_sum (scenarios m w).tail (own_totals ◌*ℤ◌ m w g x))
-  own_over w x = tail-map (scenarios m w).tail (scenarios m w).count _ _ _ (tail_within m ok w) (λ i. when-mul true (h x) (f x) (g x) (return_at (m.returns w x) i) (e x))
+  own_over w x = tail_map (scenarios m w).tail (scenarios m w).count _ _ _ (tail_within m ok w) (λ i. when_mul true (h x) (f x) (g x) (return_at (m.returns w x) i) (e x))
 
   tails_over : (w : ScenarioSet) → Over (tails_of ◌*ℤ◌ m s us w h) (tails_of ◌*ℤ◌ m s us w f) (tails_of ◌*ℤ◌ m s us w g)
   unfolding all_figures
-  tails_over w = add-over (common_over w) (sum_over us (λ x. when-over (is_own m s x) (own_over w x)))
+  tails_over w = add_over (common_over w) (sum_over us (λ x. when_over (is_own m s x) (own_over w x)))
 
   loss_under : Under (loss_of ◌*ℤ◌ m s us h) (loss_of ◌*ℤ◌ m s us f) (loss_of ◌*ℤ◌ m s us g)
   unfolding all_figures
   loss_under =
-      neg-under (add-over (mul-over (m.parameters.historical.weight.ten_thousandths * m.parameters.stress.tail) (tails_over Historical)) (mul-over (m.parameters.stress.weight.ten_thousandths * m.parameters.historical.tail) (tails_over Stress)))
+      neg_under (add_over (mul_over (m.parameters.historical.weight.ten_thousandths * m.parameters.stress.tail) (tails_over Historical)) (mul_over (m.parameters.stress.weight.ten_thousandths * m.parameters.historical.tail) (tails_over Stress)))
 
   side_under : (member : ℕ → Bool) → Under (side_of us member h) (side_of us member f) (side_of us member g)
   unfolding all_figures
   side_under member =
-      max-under (sum-under us (λ x. when-under (member x) (record { le = rw (e x) (long-adds (f x) (g x)) }))) (sum-under us (λ x. when-under (member x) (record { le = rw (e x) (short-adds (f x) (g x)) })))
+      max_under (sum_under us (λ x. when_under (member x) (record { le = rw (e x) (long_adds (f x) (g x)) }))) (sum_under us (λ x. when_under (member x) (record { le = rw (e x) (short_adds (f x) (g x)) })))
 
   portfolio_under : Under (exact_portfolio m s us h) (exact_portfolio m s us f) (exact_portfolio m s us g)
   unfolding all_figures
-  portfolio_under = max-under loss_under (mul-under (10 ^ 8) (mul-under (s.floor_rate * both_tails m) (side_under (in_portfolio m))))
+  portfolio_under = max_under loss_under (mul_under (10 ^ 8) (mul_under (s.floor_rate * both_tails m) (side_under (in_portfolio m))))
 
   flat_under : Under (flat_of m s us qs h) (flat_of m s us qs f) (flat_of m s us qs g)
   unfolding all_figures
-  flat_under = sum-under qs (λ q. mul-under (q * s.multiplier) (side_under (at_rate m q)))
+  flat_under = sum_under qs (λ q. mul_under (q * s.multiplier) (side_under (at_rate m q)))
 
   charged_under : Under (exact_charged m s us qs h) (exact_charged m s us qs f) (exact_charged m s us qs g)
   unfolding all_figures
-  charged_under = add-under portfolio_under (mul-under (10 ^ 6 * both_tails m) flat_under)
+  charged_under = add_under portfolio_under (mul_under (10 ^ 6 * both_tails m) flat_under)
 
 corporate_under : (m : Meaning) (us : List ℕ) (f g h : Kind → ℕ → ℤ) → ((k : Kind) (x : ℕ) → h k x ≡ f k x +ℤ g k x) → Under (corporate_of m us h) (corporate_of m us f) (corporate_of m us g)
 unfolding all_figures
 corporate_under m us f g h e =
-    sum-under entitlement_kinds (λ k. sum-under us (λ x. sided-under (long_percentage (entitlement_of m k x)) (short_percentage (entitlement_of m k x)) (h k x) (f k x) (g k x) (e k x)))
+    sum_under entitlement_kinds (λ k. sum_under us (λ x. sided_under (long_percentage (entitlement_of m k x)) (short_percentage (entitlement_of m k x)) (h k x) (f k x) (g k x) (e k x)))
 
 -- settings enter a charge by multiplier, floor rate and IPO stocks alone
 charged_alike : (m : Meaning) (s u : Settings) (us qs : List ℕ) (f : ℕ → ℤ) → u.multiplier ≡ s.multiplier → u.floor_rate ≡ s.floor_rate → u.ipo ≡ s.ipo → exact_charged m u us qs f ≡ exact_charged m s us qs f
@@ -104,18 +104,18 @@ module _ (m : Meaning) (ok : Lawful m) (s t u : Settings) (w : Together s t u) (
   aggregate_under : Under (exact_aggregate m u us qs c) (exact_aggregate m s us qs a) (exact_aggregate m t us qs b)
   unfolding all_figures
   aggregate_under =
-      add-under
-      (add-under (mul-under (10 ^ 10 + m.parameters.holiday_factor) charged_together) (mul-under (10 ^ 18 * both_tails m) (corporate_under m us a.market b.market c.market j.market)))
-      (pos-under (scale m) (given_inside s) (given_inside t) (given_inside u) inside_adds)
+      add_under
+      (add_under (mul_under (10 ^ 10 + m.parameters.holiday_factor) charged_together) (mul_under (10 ^ 18 * both_tails m) (corporate_under m us a.market b.market c.market j.market)))
+      (pos_under (scale m) (given_inside s) (given_inside t) (given_inside u) inside_adds)
 
   unrounded_under : Under (unrounded_of m u us qs c) (unrounded_of m s us qs a) (unrounded_of m t us qs b)
   unfolding all_figures
   unrounded_under =
-      add-under
-      (due-under (exact_aggregate m u us qs c) (pos (scale m) *ℤ c.mark) (pos (scale m * u.credit)) (exact_aggregate m s us qs a) (pos (scale m) *ℤ a.mark) (pos (scale m * s.credit)) (exact_aggregate m t us qs b) (pos (scale m) *ℤ b.mark) (pos (scale m * t.credit)) aggregate_under
-      (ap (λ z. pos (scale m) *ℤ z) j.mark ∙ mulZ-add (pos (scale m)) a.mark b.mark)
+      add_under
+      (due_under (exact_aggregate m u us qs c) (pos (scale m) *ℤ c.mark) (pos (scale m * u.credit)) (exact_aggregate m s us qs a) (pos (scale m) *ℤ a.mark) (pos (scale m * s.credit)) (exact_aggregate m t us qs b) (pos (scale m) *ℤ b.mark) (pos (scale m * t.credit)) aggregate_under
+      (ap (λ z. pos (scale m) *ℤ z) j.mark ∙ mul_z_add (pos (scale m)) a.mark b.mark)
       (ap (λ n. pos (scale m * n)) w.credit ∙ ap pos (mul-add (scale m) s.credit t.credit)) (omega (arith, ints)) (omega (arith, ints)))
-      (pos-under (scale m) (given_beside s) (given_beside t) (given_beside u) beside_adds)
+      (pos_under (scale m) (given_beside s) (given_beside t) (given_beside u) beside_adds)
 
 -- a figure of places that is one of their live entries alone
 record OfEntries (f : Place → ℤ) (g : Entry → ℤ) : Type 0 where
@@ -132,7 +132,7 @@ sum_entries f g o (Cancelled n ∷ t) = omega (arith, ints, o.cancelled n, sum_e
 module _ (a b c : List Place) (p : IsPermutation (entries a ++ entries b) (entries c)) where
   joined_sum : (f : Place → ℤ) (g : Entry → ℤ) → OfEntries f g → sum_of f c ≡ sum_of f a +ℤ sum_of f b
   joined_sum f g o =
-      omega (arith, ints, sum_entries f g o a, sum_entries f g o b, sum_entries f g o c, sum-shuffled g (entries a ++ entries b) (entries c) p, sumOf-append g (entries a) (entries b))
+      omega (arith, ints, sum_entries f g o a, sum_entries f g o b, sum_entries f g o c, sum_shuffled g (entries a ++ entries b) (entries c) p, sum_of_append g (entries a) (entries b))
 
   joined : Joined (book a) (book b) (book c)
   joined =

@@ -5,7 +5,7 @@ use Rattle.std.specs.List.{range_with_len}
 use Rattle.amounts.specs.Sets.{In, Apart, Within}
 use Rattle.amounts.specs.FirstFew.{kept}
 use Rattle.amounts.proofs.Keep.{kept_same}
-use Rattle.amounts.proofs.Sets.{in_map, un-map}
+use Rattle.amounts.proofs.Sets.{in_map, un_map}
 use Rattle.ledger.specs.declared.terms.Kind.{Kind}
 use Rattle.margin_rules.specs.declared.terms.Holding.{Holding}
 use Rattle.margin_rules.specs.Positions.{Book, all_kinds, all_stocks}
@@ -92,7 +92,7 @@ module _ (mv : Kind → ℕ → ℤ) (ks : Kind → List ℕ) where
   comes (k ∷ r) h i = go (in_either h (map (holding mv k) (ks k)) (holdings_on mv ks r) i) (comes r h)
     where
       go : In h (map (holding mv k) (ks k)) ⊎ In h (holdings_on mv ks r) → (In h (holdings_on mv ks r) → From mv ks r h) → From mv ks (k ∷ r) h
-      go (inl j) c = let w : (x : ℕ) × In x (ks k) × (h ≡ holding mv k x) = un-map (holding mv k) h (ks k) j in record { kind = k; stock = w.0; of_kind = inl refl; of_stock = w.1; is = w.2 }
+      go (inl j) c = let w : (x : ℕ) × In x (ks k) × (h ≡ holding mv k x) = un_map (holding mv k) h (ks k) j in record { kind = k; stock = w.0; of_kind = inl refl; of_stock = w.1; is = w.2 }
       go (inr j) c = let f = c j in record { kind = f.kind; stock = f.stock; of_kind = inr f.of_kind; of_stock = f.of_stock; is = f.is }
 
   there : (r : List Kind) (k : Kind) (x : ℕ) → In k r → In x (ks k) → In (holding mv k x) (holdings_on mv ks r)
@@ -102,7 +102,7 @@ module _ (mv : Kind → ℕ → ℤ) (ks : Kind → List ℕ) where
 
   apart_of_kind : (k : Kind) (xs : List ℕ) → Apart xs → Apart (map (holding mv k) xs)
   apart_of_kind k [] a = tt
-  apart_of_kind k (x ∷ xs) a = (λ i. again (un-map (holding mv k) (holding mv k x) xs i), apart_of_kind k xs a.1)
+  apart_of_kind k (x ∷ xs) a = (λ i. again (un_map (holding mv k) (holding mv k x) xs i), apart_of_kind k xs a.1)
     where
       again : (y : ℕ) × In y xs × (holding mv k x ≡ holding mv k y) → ⊥
       again w = a.0 (subst (λ y. In y xs) (sym (ap (λ h. h.stock) w.2)) w.1)
@@ -113,7 +113,7 @@ module _ (mv : Kind → ℕ → ℤ) (ks : Kind → List ℕ) where
     where
       other : (h : Holding) → In h (map (holding mv k) (ks k)) → In h (holdings_on mv ks r) → ⊥
       other h i j =
-          let w : (x : ℕ) × In x (ks k) × (h ≡ holding mv k x) = un-map (holding mv k) h (ks k) i in
+          let w : (x : ℕ) × In x (ks k) × (h ≡ holding mv k x) = un_map (holding mv k) h (ks k) i in
           let f = comes r h j in
           a.0 (subst (λ l. In l r) (ap (λ h. h.kind) (sym f.is ∙ w.2)) f.of_kind)
 

@@ -5,7 +5,7 @@ use Rattle.std.proofs.lemmas.Bool.Decides.{nat_tests}
 use Rattle.amounts.specs.Sums.{sum_of}
 use Rattle.amounts.specs.Tails.{tail_sum}
 use Rattle.amounts.specs.FirstFew.{Strict, GoesBy, kept}
-use Rattle.amounts.proofs.Keep.{kept-sum}
+use Rattle.amounts.proofs.Keep.{kept_sum}
 use Rattle.ledger.specs.declared.terms.Kind.{Kind}
 use Rattle.ledger.specs.declared.terms.Kind.TheVariants.{Stock, Dsp, Sri, Div}
 use Rattle.ledger.specs.Kinds.{kind_number}
@@ -39,7 +39,7 @@ worse_by_total = record { yes = worse_yes; no = worse_no }
 
 -- the totals of the worst outcomes add up to the tail
 pub tail_is_kept : (k : ℕ) (os : List Outcome) → k ≤ length os → sum_of (λ o. o.total) (kept worse k os) ≡ tail_sum k (map (λ o. o.total) os)
-tail_is_kept = kept-sum worse (λ o. o.total) worse_strict worse_by_total
+tail_is_kept = kept_sum worse (λ o. o.total) worse_strict worse_by_total
 
 -- a kind is told by its number
 pub kind_told : (k j : Kind) → kind_number k ≡ kind_number j → k ≡ j

@@ -2,7 +2,7 @@
 -- their numbers: the places, each live instrument, gross market value, and the margins. Assumes nothing.
 use Rattle.std.specs.Prelude.{ℕ, ◌+◌, ◌-◌, Bool, true, false, cond, not, ◌&&◌, List, [], ◌∷◌, ◌++◌, map, length, replicate, filter, ℤ, pos, ◌+ℤ◌, is_some, Some, None, Ok, Err, Option, Result, max, int_le, int_lt, nat_le, nat_lt, unsigned_abs}
 use Rattle.amounts.specs.FirstFew.{kept}
-use Rattle.return_source.specs.Meaning.{Meaning, tier-of}
+use Rattle.return_source.specs.Meaning.{Meaning, tier_of}
 use Rattle.ledger.specs.declared.terms.Kind.{Kind}
 use Rattle.ledger.specs.declared.terms.Kind.TheVariants.{Stock, Dsp, Sri, Div}
 use Rattle.ledger.specs.declared.terms.Instrument.{Instrument}
@@ -27,7 +27,7 @@ assessment_refusal_number Margin = 33
 
 -- has the instrument a tier, or an entitlement of its kind?
 abbrev pub is_covered : Meaning → Kind → ℕ → Bool
-is_covered m Stock x = is_some (tier-of m x)
+is_covered m Stock x = is_some (tier_of m x)
 is_covered m Dsp x = is_some (entitlement_of m Dsp x)
 is_covered m Sri x = is_some (entitlement_of m Sri x)
 is_covered m Div x = is_some (entitlement_of m Div x)

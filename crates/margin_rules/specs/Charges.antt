@@ -8,7 +8,7 @@ use Rattle.amounts.specs.Rounding.{round_off}
 use Rattle.amounts.specs.Charges.{sided}
 use Rattle.return_source.specs.declared.terms.Entitlement.{Entitlement}
 use Rattle.return_source.specs.declared.terms.EntitlementType.TheVariants as entitlement
-use Rattle.return_source.specs.Meaning.{Meaning, tier-of}
+use Rattle.return_source.specs.Meaning.{Meaning, tier_of}
 use Rattle.ledger.specs.declared.terms.Kind.{Kind}
 use Rattle.ledger.specs.declared.terms.Kind.TheVariants.{Stock, Dsp, Sri, Div}
 use Rattle.ledger.specs.declared.terms.Settings.{Settings}
@@ -25,7 +25,7 @@ is_rate q (Some r) = q == r
 
 -- is the stock one of the flat tier at this rate?
 abbrev pub at_rate : Meaning → ℕ → ℕ → Bool
-at_rate m q x = is_flat (tier-of m x) && is_rate q (m.rate x)
+at_rate m q x = is_flat (tier_of m x) && is_rate q (m.rate x)
 
 -- what all sub-categories cost, over 10^6: rate times multiplier times the greater side
 unfoldable pub flat_of : Meaning → Settings → List ℕ → List ℕ → (ℕ → ℤ) → ℤ

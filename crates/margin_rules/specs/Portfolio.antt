@@ -14,7 +14,7 @@ use Rattle.return_source.specs.declared.terms.ScenarioSet.TheVariants.{Historica
 use Rattle.return_source.specs.declared.terms.Scenarios.{Scenarios}
 use Rattle.return_source.specs.declared.terms.Tier.{Tier}
 use Rattle.return_source.specs.declared.terms.Tier.TheVariants.{Portfolio, Flat}
-use Rattle.return_source.specs.Meaning.{Meaning, tier-of}
+use Rattle.return_source.specs.Meaning.{Meaning, tier_of}
 use Rattle.ledger.specs.declared.terms.Settings.{Settings}
 use Rattle.ledger.specs.Settings.{is_ipo}
 
@@ -44,7 +44,7 @@ is_flat (Some Flat) = true
 
 -- does the stock stand in the portfolio tier?
 abbrev pub in_portfolio : Meaning → ℕ → Bool
-in_portfolio m x = is_portfolio (tier-of m x)
+in_portfolio m x = is_portfolio (tier_of m x)
 
 -- is the stock one of the common group?
 abbrev pub is_common : Meaning → Settings → ℕ → Bool

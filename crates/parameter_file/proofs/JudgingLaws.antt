@@ -7,80 +7,80 @@ use Rattle.parameter_text.specs.Cuts.{lines}
 use Rattle.return_source.specs.declared.terms.Parameters.{Parameters}
 use Rattle.parameter_heading.specs.declared.terms.Fault.{Fault}
 use Rattle.parameter_heading.specs.declared.terms.Heading.{Heading}
-use Rattle.parameter_heading.specs.Lines.{fault-at}
+use Rattle.parameter_heading.specs.Lines.{fault_at}
 use Rattle.parameter_heading.specs.Headings.{heading}
 use Rattle.parameter_heading.specs.Laid.{Sound}
 use Rattle.parameter_file.specs.declared.terms.StockRows.{StockRows}
 use Rattle.return_source.specs.declared.terms.ScenarioSet.TheVariants.{Historical, Stress}
-use Rattle.file_rules.specs.Rows.{Row, File, returns-in, rate-in, first-in, unfit, fault-line, earliest}
-use Rattle.file_rules.specs.Judged.{most_bytes, stock-places, rows-from, if-even, fitting, sized, after-heading, verdict}
-use Rattle.parameter_file.specs.Table.{no_rows, fault-in, Says, Holds, Counts}
-use Rattle.parameter_file.specs.Checked.{rows_in, Judged-file, heading-found, indexes, Indexed}
-use Rattle.parameter_file.proofs.TestLaws.{says-true}
-use Rattle.file_rules.proofs.FileLaws.{earliest-same}
+use Rattle.file_rules.specs.Rows.{Row, File, returns_in, rate_in, first_in, unfit, fault_line, earliest}
+use Rattle.file_rules.specs.Judged.{most_bytes, stock_places, rows_from, if_even, fitting, sized, after_heading, verdict}
+use Rattle.parameter_file.specs.Table.{no_rows, fault_in, Says, Holds, Counts}
+use Rattle.parameter_file.specs.Checked.{rows_in, JudgedFile, heading_found, indexes, Indexed}
+use Rattle.parameter_file.proofs.TestLaws.{says_true}
+use Rattle.file_rules.proofs.FileLaws.{earliest_same}
 
 pub counts_of : (h : Heading) → Sound h → Counts h.parameters
-counts_of h s = record { historical-some = s.historical.some; historical-few = s.historical.few; stress-some = s.stress.some; stress-few = s.stress.few }
+counts_of h s = record { historical_some = s.historical.some; historical_few = s.historical.few; stress_some = s.stress.some; stress_few = s.stress.few }
 
-pub too_short : (bytes : List ℕ) → length bytes ≡ 0 → verdict bytes ≡ Err (fault-at 0 Length)
+pub too_short : (bytes : List ℕ) → length bytes ≡ 0 → verdict bytes ≡ Err (fault_at 0 Length)
 too_short bytes e = cond-false (sized bytes) _ _ (and_left (leb 1 (length bytes)) _ (lt-leb 1 (length bytes) (omega arith)))
 
-pub too_long : (bytes : List ℕ) → most_bytes < length bytes → verdict bytes ≡ Err (fault-at 0 Length)
+pub too_long : (bytes : List ℕ) → most_bytes < length bytes → verdict bytes ≡ Err (fault_at 0 Length)
 too_long bytes h = cond-false (sized bytes) _ _ (and_right (leb 1 (length bytes)) _ (lt-leb (length bytes) most_bytes h))
 
-fault-is : (p : Parameters) (kept : List ℤ) (rows : List Row) (s : ℕ) (e : StockRows) → Says p kept rows s e → fault-in e ≡ fault-line rows s
-fault-is p kept rows s e h =
-    let H = is_some (first-in (returns-in Historical) rows s) in
-    let T = is_some (first-in (returns-in Stress) rows s) in
-    let F = is_some (first-in rate-in rows s) in
+fault_is : (p : Parameters) (kept : List ℤ) (rows : List Row) (s : ℕ) (e : StockRows) → Says p kept rows s e → fault_in e ≡ fault_line rows s
+fault_is p kept rows s e h =
+    let H = is_some (first_in (returns_in Historical) rows s) in
+    let T = is_some (first_in (returns_in Stress) rows s) in
+    let F = is_some (first_in rate_in rows s) in
     ap (λ (x : Bool). cond (unfit x (is_some e.stress) (is_some e.rate)) e.line None) h.0.0
     ∙ ap (λ (x : Bool). cond (unfit H x (is_some e.rate)) e.line None) h.1.0
     ∙ ap (λ (o : Option ℕ). cond (unfit H T (is_some o)) e.line None) h.2
     ∙ ap (λ (o : Option ℕ). cond (unfit H T F) o None) h.6
 
 -- the earliest fault in the table is the earliest of the rows
-pub fault-found : (p : Parameters) (kept : List ℤ) (table : List StockRows) (rows : List Row) → length table ≡ stock-places → Holds p kept table rows → earliest (λ s. fault-in (get_or table s no_rows)) (length table) ≡ earliest (fault-line rows) stock-places
-fault-found p kept table rows e h =
-    ap (earliest (λ s. fault-in (get_or table s no_rows))) e
-    ∙ earliest-same (λ s. fault-in (get_or table s no_rows)) (fault-line rows) stock-places (λ s l. fault-is p kept rows s (get_or table s no_rows) (h s (omega arith)))
+pub fault_found : (p : Parameters) (kept : List ℤ) (table : List StockRows) (rows : List Row) → length table ≡ stock_places → Holds p kept table rows → earliest (λ s. fault_in (get_or table s no_rows)) (length table) ≡ earliest (fault_line rows) stock_places
+fault_found p kept table rows e h =
+    ap (earliest (λ s. fault_in (get_or table s no_rows))) e
+    ∙ earliest_same (λ s. fault_in (get_or table s no_rows)) (fault_line rows) stock_places (λ s l. fault_is p kept rows s (get_or table s no_rows) (h s (omega arith)))
 
 module _ (bytes : List ℕ) (some : 1 ≤ length bytes) (few : length bytes ≤ most_bytes) where
   size : sized bytes ≡ true
   size = and_from (leb 1 (length bytes)) _ (le-leb 1 (length bytes) some) (le-leb (length bytes) most_bytes few)
 
-  asked : verdict bytes ≡ and_then (heading (lines bytes)) after-heading
+  asked : verdict bytes ≡ and_then (heading (lines bytes)) after_heading
   asked = cond-true (sized bytes) _ _ size
 
-  pub heading-fault : (e : Fault) → Err e ≡ heading (lines bytes) → verdict bytes ≡ Err e
-  heading-fault e h = asked ∙ ap (λ (x : Result (Heading × List (List ℕ)) Fault). and_then x after-heading) (sym h)
+  pub heading_fault : (e : Fault) → Err e ≡ heading (lines bytes) → verdict bytes ≡ Err e
+  heading_fault e h = asked ∙ ap (λ (x : Result (Heading × List (List ℕ)) Fault). and_then x after_heading) (sym h)
 
   module _ (h : Heading) (ls : List (List ℕ)) (head : Ok (h, ls) ≡ heading (lines bytes)) where
-    after : verdict bytes ≡ and_then (rows-from h.parameters 14 [] ls) (λ (rows : List Row). fitting (record { heading = h; rows = rows }))
-    after = asked ∙ ap (λ (x : Result (Heading × List (List ℕ)) Fault). and_then x after-heading) (sym head)
+    after : verdict bytes ≡ and_then (rows_from h.parameters 14 [] ls) (λ (rows : List Row). fitting (record { heading = h; rows = rows }))
+    after = asked ∙ ap (λ (x : Result (Heading × List (List ℕ)) Fault). and_then x after_heading) (sym head)
 
-    pub rows-fault : (e : Fault) → rows-from h.parameters 14 [] ls ≡ Err e → verdict bytes ≡ Err e
-    rows-fault e r = after ∙ ap (λ (x : Result (List Row) Fault). and_then x (λ (rows : List Row). fitting (record { heading = h; rows = rows }))) r
+    pub rows_fault : (e : Fault) → rows_from h.parameters 14 [] ls ≡ Err e → verdict bytes ≡ Err e
+    rows_fault e r = after ∙ ap (λ (x : Result (List Row) Fault). and_then x (λ (rows : List Row). fitting (record { heading = h; rows = rows }))) r
 
-    module _ (kept : List ℤ) (table : List StockRows) (places : length table ≡ stock-places) (rows : List Row) (r : rows-from h.parameters 14 [] ls ≡ Ok rows) (holds : Holds h.parameters kept table rows) where
-      said : verdict bytes ≡ if-even (earliest (λ s. fault-in (get_or table s no_rows)) (length table)) (record { heading = h; rows = rows })
+    module _ (kept : List ℤ) (table : List StockRows) (places : length table ≡ stock_places) (rows : List Row) (r : rows_from h.parameters 14 [] ls ≡ Ok rows) (holds : Holds h.parameters kept table rows) where
+      said : verdict bytes ≡ if_even (earliest (λ s. fault_in (get_or table s no_rows)) (length table)) (record { heading = h; rows = rows })
       said =
           after
           ∙ ap (λ (x : Result (List Row) Fault). and_then x (λ (rs : List Row). fitting (record { heading = h; rows = rs }))) r
-          ∙ ap (λ (o : Option ℕ). if-even o (record { heading = h; rows = rows })) (sym (fault-found h.parameters kept table rows places holds))
+          ∙ ap (λ (o : Option ℕ). if_even o (record { heading = h; rows = rows })) (sym (fault_found h.parameters kept table rows places holds))
 
-      pub tier-fault : (k : ℕ) → Some k ≡ earliest (λ s. fault-in (get_or table s no_rows)) (length table) → verdict bytes ≡ Err (fault-at k Tier)
-      tier-fault k e = said ∙ ap (λ (o : Option ℕ). if-even o (record { heading = h; rows = rows })) (sym e)
+      pub tier_fault : (k : ℕ) → Some k ≡ earliest (λ s. fault_in (get_or table s no_rows)) (length table) → verdict bytes ≡ Err (fault_at k Tier)
+      tier_fault k e = said ∙ ap (λ (o : Option ℕ). if_even o (record { heading = h; rows = rows })) (sym e)
 
-      pub all-passed : None ≡ earliest (λ s. fault-in (get_or table s no_rows)) (length table) → Judged-file bytes kept table (Ok h)
-      all-passed e =
-          let ok : verdict bytes ≡ Ok (record { heading = h; rows = rows }) = said ∙ ap (λ (o : Option ℕ). if-even o (record { heading = h; rows = rows })) (sym e) in
+      pub all_passed : None ≡ earliest (λ s. fault_in (get_or table s no_rows)) (length table) → JudgedFile bytes kept table (Ok h)
+      all_passed e =
+          let ok : verdict bytes ≡ Ok (record { heading = h; rows = rows }) = said ∙ ap (λ (o : Option ℕ). if_even o (record { heading = h; rows = rows })) (sym e) in
           let same : rows_in (verdict bytes) ≡ rows = ap rows_in ok in
           (ok ∙ ap (λ (rs : List Row). Ok (record { heading = h; rows = rs })) (sym same), places, subst (Holds h.parameters kept table) (sym same) holds)
 
 -- what a check that passed leaves
-module _ (bytes : List ℕ) (kept : List ℤ) (table : List StockRows) (h : Heading) (j : Judged-file bytes kept table (Ok h)) where
-  pub heading-is : Some h ≡ heading-found (verdict bytes)
-  heading-is = sym (ap heading-found j.0)
+module _ (bytes : List ℕ) (kept : List ℤ) (table : List StockRows) (h : Heading) (j : JudgedFile bytes kept table (Ok h)) where
+  pub heading_is : Some h ≡ heading_found (verdict bytes)
+  heading_is = sym (ap heading_found j.0)
 
   pub index_is : Indexed bytes kept table
-  index_is s l = ap (λ (v : Result File Fault). indexes v kept table s) j.0 ∙ says-true h.parameters kept (rows_in (verdict bytes)) s (get_or table s no_rows) (j.2 s l)
+  index_is s l = ap (λ (v : Result File Fault). indexes v kept table s) j.0 ∙ says_true h.parameters kept (rows_in (verdict bytes)) s (get_or table s no_rows) (j.2 s l)

@@ -9,78 +9,78 @@ use Rattle.return_source.specs.declared.terms.Parameters.{Parameters}
 use Rattle.parameter_file.specs.declared.terms.Found.{Found}
 use Rattle.parameter_file.specs.declared.terms.Found.TheVariants as found
 use Rattle.parameter_file.specs.declared.terms.StockRows.{StockRows}
-use Rattle.file_rules.specs.Rows.{Content, returns, rate, right, unread, Row, returns-in, rate-in, right-in, or_else, first-in, repeated, tiered, first-line}
-use Rattle.return_source.specs.Lawful.{scenario-count}
-use Rattle.file_rules.specs.Judged.{with-stock}
-use Rattle.parameter_file.specs.Table.{no_rows, held, aside, taken, noted, Kept-at, Says, Holds, Blank}
+use Rattle.file_rules.specs.Rows.{Content, returns, rate, right, unread, Row, returns_in, rate_in, right_in, or_else, first_in, repeated, tiered, first_line}
+use Rattle.return_source.specs.Lawful.{scenario_count}
+use Rattle.file_rules.specs.Judged.{with_stock}
+use Rattle.parameter_file.specs.Table.{no_rows, held, aside, taken, noted, KeptAt, Says, Holds, Blank}
 
 -- rows with one more at their end
 
-or-none : {X : Type 0} (o : Option X) → or_else o None ≡ o
-or-none None = refl
-or-none (Some x) = refl
+or_none : {X : Type 0} (o : Option X) → or_else o None ≡ o
+or_none None = refl
+or_none (Some x) = refl
 
 or_assoc : {X : Type 0} (a b c : Option X) → or_else a (or_else b c) ≡ or_else (or_else a b) c
 or_assoc None b c = refl
 or_assoc (Some x) b c = refl
 
 module _ {X : Type 0} (f : Content → Option X) where
-  first-push : (rows : List Row) (r : Row) (s : ℕ) → first-in f (rows ++ r ∷ []) s ≡ or_else (first-in f rows s) (cond (eqb r.stock s) (f r.content) None)
-  first-push [] r s = or-none _
-  first-push (q ∷ rows) r s =
-      ap (or_else (cond (eqb q.stock s) (f q.content) None)) (first-push rows r s) ∙ or_assoc (cond (eqb q.stock s) (f q.content) None) (first-in f rows s) _
+  first_push : (rows : List Row) (r : Row) (s : ℕ) → first_in f (rows ++ r ∷ []) s ≡ or_else (first_in f rows s) (cond (eqb r.stock s) (f r.content) None)
+  first_push [] r s = or_none _
+  first_push (q ∷ rows) r s =
+      ap (or_else (cond (eqb q.stock s) (f q.content) None)) (first_push rows r s) ∙ or_assoc (cond (eqb q.stock s) (f q.content) None) (first_in f rows s) _
 
   -- a row of another stock, of another kind, and the first of its kind
 
-  first-other : (rows : List Row) (r : Row) (s : ℕ) → (r.stock ≡ s → ⊥) → first-in f rows s ≡ first-in f (rows ++ r ∷ []) s
-  first-other rows r s n = sym (first-push rows r s ∙ ap (or_else (first-in f rows s)) (cond-false (eqb r.stock s) (f r.content) None (ne_eqb r.stock s n)) ∙ or-none _)
+  first_other : (rows : List Row) (r : Row) (s : ℕ) → (r.stock ≡ s → ⊥) → first_in f rows s ≡ first_in f (rows ++ r ∷ []) s
+  first_other rows r s n = sym (first_push rows r s ∙ ap (or_else (first_in f rows s)) (cond-false (eqb r.stock s) (f r.content) None (ne_eqb r.stock s n)) ∙ or_none _)
 
-  first-same : (rows : List Row) (s : ℕ) (x : Content) → first-in f (rows ++ with-stock s x ∷ []) s ≡ or_else (first-in f rows s) (f x)
-  first-same rows s x = first-push rows (with-stock s x) s ∙ ap (or_else (first-in f rows s)) (cond-true (eqb s s) (f x) None (eq-eqb s s refl))
+  first_same : (rows : List Row) (s : ℕ) (x : Content) → first_in f (rows ++ with_stock s x ∷ []) s ≡ or_else (first_in f rows s) (f x)
+  first_same rows s x = first_push rows (with_stock s x) s ∙ ap (or_else (first_in f rows s)) (cond-true (eqb s s) (f x) None (eq-eqb s s refl))
 
-  first-unlike : (rows : List Row) (s : ℕ) (x : Content) → f x ≡ None → first-in f rows s ≡ first-in f (rows ++ with-stock s x ∷ []) s
-  first-unlike rows s x n = sym (first-same rows s x ∙ ap (or_else (first-in f rows s)) n ∙ or-none _)
+  first_unlike : (rows : List Row) (s : ℕ) (x : Content) → f x ≡ None → first_in f rows s ≡ first_in f (rows ++ with_stock s x ∷ []) s
+  first_unlike rows s x n = sym (first_same rows s x ∙ ap (or_else (first_in f rows s)) n ∙ or_none _)
 
-  first-new : (rows : List Row) (s : ℕ) (x : Content) (v : X) → first-in f rows s ≡ None → f x ≡ Some v → Some v ≡ first-in f (rows ++ with-stock s x ∷ []) s
-  first-new rows s x v n e = sym (first-same rows s x ∙ ap (λ (o : Option X). or_else o (f x)) n ∙ e)
+  first_new : (rows : List Row) (s : ℕ) (x : Content) (v : X) → first_in f rows s ≡ None → f x ≡ Some v → Some v ≡ first_in f (rows ++ with_stock s x ∷ []) s
+  first_new rows s x v n e = sym (first_same rows s x ∙ ap (λ (o : Option X). or_else o (f x)) n ∙ e)
 
-line-push : (k : ℕ) (rows : List Row) (r : Row) (s : ℕ) → first-line k (rows ++ r ∷ []) s ≡ or_else (first-line k rows s) (cond (eqb r.stock s && tiered r.content) (Some (k + length rows)) None)
-line-push k [] r s = ap (λ (n : ℕ). cond (eqb r.stock s && tiered r.content) (Some n) None) (omega arith)
-line-push k (q ∷ rows) r s =
-    elim (eqb q.stock s && tiered q.content) as (λ t. cond t (Some k) (first-line (k + 1) (rows ++ r ∷ []) s) ≡ or_else (cond t (Some k) (first-line (k + 1) rows s)) (cond (eqb r.stock s && tiered r.content) (Some (k + suc (length rows))) None)) [
+line_push : (k : ℕ) (rows : List Row) (r : Row) (s : ℕ) → first_line k (rows ++ r ∷ []) s ≡ or_else (first_line k rows s) (cond (eqb r.stock s && tiered r.content) (Some (k + length rows)) None)
+line_push k [] r s = ap (λ (n : ℕ). cond (eqb r.stock s && tiered r.content) (Some n) None) (omega arith)
+line_push k (q ∷ rows) r s =
+    elim (eqb q.stock s && tiered q.content) as (λ t. cond t (Some k) (first_line (k + 1) (rows ++ r ∷ []) s) ≡ or_else (cond t (Some k) (first_line (k + 1) rows s)) (cond (eqb r.stock s && tiered r.content) (Some (k + suc (length rows))) None)) [
       | true ↦ refl
-      | false ↦ line-push (k + 1) rows r s ∙ ap (λ (n : ℕ). or_else (first-line (k + 1) rows s) (cond (eqb r.stock s && tiered r.content) (Some n) None)) (omega arith)
+      | false ↦ line_push (k + 1) rows r s ∙ ap (λ (n : ℕ). or_else (first_line (k + 1) rows s) (cond (eqb r.stock s && tiered r.content) (Some n) None)) (omega arith)
     ]
 
-line_other : (k : ℕ) (rows : List Row) (r : Row) (s : ℕ) → (r.stock ≡ s → ⊥) → first-line k rows s ≡ first-line k (rows ++ r ∷ []) s
+line_other : (k : ℕ) (rows : List Row) (r : Row) (s : ℕ) → (r.stock ≡ s → ⊥) → first_line k rows s ≡ first_line k (rows ++ r ∷ []) s
 line_other k rows r s n =
-    sym (line-push k rows r s ∙ ap (or_else (first-line k rows s)) (cond-false (eqb r.stock s && tiered r.content) _ None (and_left (eqb r.stock s) _ (ne_eqb r.stock s n))) ∙ or-none _)
+    sym (line_push k rows r s ∙ ap (or_else (first_line k rows s)) (cond-false (eqb r.stock s && tiered r.content) _ None (and_left (eqb r.stock s) _ (ne_eqb r.stock s n))) ∙ or_none _)
 
-line_same : (k : ℕ) (rows : List Row) (s : ℕ) (x : Content) → first-line k (rows ++ with-stock s x ∷ []) s ≡ or_else (first-line k rows s) (cond (tiered x) (Some (k + length rows)) None)
-line_same k rows s x = line-push k rows (with-stock s x) s ∙ ap (λ (b : Bool). or_else (first-line k rows s) (cond (b && tiered x) (Some (k + length rows)) None)) (eq-eqb s s refl)
+line_same : (k : ℕ) (rows : List Row) (s : ℕ) (x : Content) → first_line k (rows ++ with_stock s x ∷ []) s ≡ or_else (first_line k rows s) (cond (tiered x) (Some (k + length rows)) None)
+line_same k rows s x = line_push k rows (with_stock s x) s ∙ ap (λ (b : Bool). or_else (first_line k rows s) (cond (b && tiered x) (Some (k + length rows)) None)) (eq-eqb s s refl)
 
 -- returns kept before stay, and new ones are kept after them
 
-kept-stays : (n : ℕ) (kept more : List ℤ) (place : Option ℕ) (row : Option (List ℤ)) → Kept-at n kept place row → Kept-at n (kept ++ more) place row
-kept-stays n kept more None row (a, b, c) = (a, b, omega arith)
-kept-stays n kept more (Some start) row (a, b, c) =
+kept_stays : (n : ℕ) (kept more : List ℤ) (place : Option ℕ) (row : Option (List ℤ)) → KeptAt n kept place row → KeptAt n (kept ++ more) place row
+kept_stays n kept more None row (a, b, c) = (a, b, omega arith)
+kept_stays n kept more (Some start) row (a, b, c) =
     let front : drop start (kept ++ more) ≡ drop start kept ++ more = drop-append-le start kept more (omega arith) in
     let same : take n (drop start kept ++ more) ≡ take n (drop start kept) = take-append-le n (drop start kept) more (omega (arith, length-drop start kept)) in
     (a, ap (take n) front ∙ same ∙ b, omega (arith, length-append kept more))
 
-kept_new : (n : ℕ) (kept vs : List ℤ) → length vs ≡ n → Kept-at n (kept ++ vs) (Some (length kept)) (Some vs)
+kept_new : (n : ℕ) (kept vs : List ℤ) → length vs ≡ n → KeptAt n (kept ++ vs) (Some (length kept)) (Some vs)
 kept_new n kept vs e = (refl, ap (take n) (drop_at kept vs (length kept) refl) ∙ take_all n vs (omega arith), omega (arith, length-append kept vs))
 
 none_of : {X : Type 0} (o : Option X) → is_some o ≡ false → o ≡ None
 none_of None h = refl
 none_of (Some x) h = absurd (true≢false h)
 
-kept-as : (n : ℕ) (kept : List ℤ) (place : Option ℕ) (row row' : Option (List ℤ)) → row ≡ row' → Kept-at n kept place row → Kept-at n kept place row'
-kept-as n kept place row row' e h = subst (Kept-at n kept place) e h
+kept_as : (n : ℕ) (kept : List ℤ) (place : Option ℕ) (row row' : Option (List ℤ)) → row ≡ row' → KeptAt n kept place row → KeptAt n kept place row'
+kept_as n kept place row row' e h = subst (KeptAt n kept place) e h
 
 -- what a row's kind needs of its returns
 abbrev pub Whole : Parameters → Found → List ℤ → Type 0
-Whole p (found.Returns w) vs = length vs ≡ scenario-count p w
+Whole p (found.Returns w) vs = length vs ≡ scenario_count p w
 Whole p (found.Rate n) vs = Unit {0}
 Whole p (found.Right t e) vs = Unit {0}
 Whole p found.Unread vs = Unit {0}
@@ -98,119 +98,119 @@ taken_is p kept rows s e found.Unread vs h = refl
 module _ (p : Parameters) (kept : List ℤ) (rows : List Row) (s : ℕ) (e : StockRows) (h : Says p kept rows s e) where
   says_other : (more : List ℤ) (r : Row) → (r.stock ≡ s → ⊥) → Says p (kept ++ more) (rows ++ r ∷ []) s e
   says_other more r n = (
-    kept-as _ _ e.historical _ _ (first-other (returns-in Historical) rows r s n) (kept-stays _ kept more e.historical _ h.0),
-    kept-as _ _ e.stress _ _ (first-other (returns-in Stress) rows r s n) (kept-stays _ kept more e.stress _ h.1),
-    h.2 ∙ first-other rate-in rows r s n,
-    h.3 ∙ first-other (right-in Dsp) rows r s n,
-    h.4 ∙ first-other (right-in Sri) rows r s n,
-    h.5 ∙ first-other (right-in Div) rows r s n,
+    kept_as _ _ e.historical _ _ (first_other (returns_in Historical) rows r s n) (kept_stays _ kept more e.historical _ h.0),
+    kept_as _ _ e.stress _ _ (first_other (returns_in Stress) rows r s n) (kept_stays _ kept more e.stress _ h.1),
+    h.2 ∙ first_other rate_in rows r s n,
+    h.3 ∙ first_other (right_in Dsp) rows r s n,
+    h.4 ∙ first_other (right_in Sri) rows r s n,
+    h.5 ∙ first_other (right_in Div) rows r s n,
     h.6 ∙ line_other 14 rows r s n,
   )
 
   -- the parts that a row of another kind leaves
   module _ (x : Content) (more : List ℤ) where
     after : List Row
-    after = rows ++ with-stock s x ∷ []
+    after = rows ++ with_stock s x ∷ []
 
-    old-returns : (w : ScenarioSet) (place : Option ℕ) → returns-in w x ≡ None → Kept-at (scenario-count p w) kept place (first-in (returns-in w) rows s) → Kept-at (scenario-count p w) (kept ++ more) place (first-in (returns-in w) (rows ++ with-stock s x ∷ []) s)
-    old-returns w place n k = kept-as _ _ place _ _ (first-unlike (returns-in w) rows s x n) (kept-stays _ kept more place _ k)
+    old_returns : (w : ScenarioSet) (place : Option ℕ) → returns_in w x ≡ None → KeptAt (scenario_count p w) kept place (first_in (returns_in w) rows s) → KeptAt (scenario_count p w) (kept ++ more) place (first_in (returns_in w) (rows ++ with_stock s x ∷ []) s)
+    old_returns w place n k = kept_as _ _ place _ _ (first_unlike (returns_in w) rows s x n) (kept_stays _ kept more place _ k)
 
-    old-line : tiered x ≡ false → e.line ≡ first-line 14 (rows ++ with-stock s x ∷ []) s
-    old-line n = h.6 ∙ sym (line_same 14 rows s x ∙ ap (λ (b : Bool). or_else (first-line 14 rows s) (cond b (Some (14 + length rows)) None)) n ∙ or-none _)
+    old_line : tiered x ≡ false → e.line ≡ first_line 14 (rows ++ with_stock s x ∷ []) s
+    old_line n = h.6 ∙ sym (line_same 14 rows s x ∙ ap (λ (b : Bool). or_else (first_line 14 rows s) (cond b (Some (14 + length rows)) None)) n ∙ or_none _)
 
-    new_line : (k : ℕ) → k ≡ 14 + length rows → tiered x ≡ true → or_else e.line (Some k) ≡ first-line 14 (rows ++ with-stock s x ∷ []) s
-    new_line k q y = ap (λ (o : Option ℕ). or_else o (Some k)) h.6 ∙ ap (λ (n : ℕ). or_else (first-line 14 rows s) (Some n)) q ∙ sym (line_same 14 rows s x ∙ ap (λ (b : Bool). or_else (first-line 14 rows s) (cond b (Some (14 + length rows)) None)) y)
+    new_line : (k : ℕ) → k ≡ 14 + length rows → tiered x ≡ true → or_else e.line (Some k) ≡ first_line 14 (rows ++ with_stock s x ∷ []) s
+    new_line k q y = ap (λ (o : Option ℕ). or_else o (Some k)) h.6 ∙ ap (λ (n : ℕ). or_else (first_line 14 rows s) (Some n)) q ∙ sym (line_same 14 rows s x ∙ ap (λ (b : Bool). or_else (first_line 14 rows s) (cond b (Some (14 + length rows)) None)) y)
 
-  new-returns : (w : ScenarioSet) (vs : List ℤ) → length vs ≡ scenario-count p w → is_some (first-in (returns-in w) rows s) ≡ false → returns-in w (returns w vs) ≡ Some vs → Kept-at (scenario-count p w) (kept ++ vs) (Some (length kept)) (first-in (returns-in w) (rows ++ with-stock s (returns w vs) ∷ []) s)
-  new-returns w vs l n y = kept-as _ _ (Some (length kept)) _ _ (first-new (returns-in w) rows s (returns w vs) vs (none_of _ n) y) (kept_new (scenario-count p w) kept vs l)
+  new_returns : (w : ScenarioSet) (vs : List ℤ) → length vs ≡ scenario_count p w → is_some (first_in (returns_in w) rows s) ≡ false → returns_in w (returns w vs) ≡ Some vs → KeptAt (scenario_count p w) (kept ++ vs) (Some (length kept)) (first_in (returns_in w) (rows ++ with_stock s (returns w vs) ∷ []) s)
+  new_returns w vs l n y = kept_as _ _ (Some (length kept)) _ _ (first_new (returns_in w) rows s (returns w vs) vs (none_of _ n) y) (kept_new (scenario_count p w) kept vs l)
 
-  says_same : (f : Found) (vs : List ℤ) (k : ℕ) → k ≡ 14 + length rows → Whole p f vs → taken e f ≡ false → Says p (kept ++ aside f vs) (rows ++ with-stock s (held f vs) ∷ []) s (noted e f (length kept) k)
+  says_same : (f : Found) (vs : List ℤ) (k : ℕ) → k ≡ 14 + length rows → Whole p f vs → taken e f ≡ false → Says p (kept ++ aside f vs) (rows ++ with_stock s (held f vs) ∷ []) s (noted e f (length kept) k)
   says_same (found.Returns Historical) vs k q l n =
       let x = returns Historical vs in (
-        new-returns Historical vs l (sym h.0.0 ∙ n) refl,
-        old-returns x vs Stress e.stress refl h.1,
-        h.2 ∙ first-unlike rate-in rows s x refl,
-        h.3 ∙ first-unlike (right-in Dsp) rows s x refl,
-        h.4 ∙ first-unlike (right-in Sri) rows s x refl,
-        h.5 ∙ first-unlike (right-in Div) rows s x refl,
+        new_returns Historical vs l (sym h.0.0 ∙ n) refl,
+        old_returns x vs Stress e.stress refl h.1,
+        h.2 ∙ first_unlike rate_in rows s x refl,
+        h.3 ∙ first_unlike (right_in Dsp) rows s x refl,
+        h.4 ∙ first_unlike (right_in Sri) rows s x refl,
+        h.5 ∙ first_unlike (right_in Div) rows s x refl,
         new_line x vs k q refl,
       )
   says_same (found.Returns Stress) vs k q l n =
       let x = returns Stress vs in (
-        old-returns x vs Historical e.historical refl h.0,
-        new-returns Stress vs l (sym h.1.0 ∙ n) refl,
-        h.2 ∙ first-unlike rate-in rows s x refl,
-        h.3 ∙ first-unlike (right-in Dsp) rows s x refl,
-        h.4 ∙ first-unlike (right-in Sri) rows s x refl,
-        h.5 ∙ first-unlike (right-in Div) rows s x refl,
+        old_returns x vs Historical e.historical refl h.0,
+        new_returns Stress vs l (sym h.1.0 ∙ n) refl,
+        h.2 ∙ first_unlike rate_in rows s x refl,
+        h.3 ∙ first_unlike (right_in Dsp) rows s x refl,
+        h.4 ∙ first_unlike (right_in Sri) rows s x refl,
+        h.5 ∙ first_unlike (right_in Div) rows s x refl,
         new_line x vs k q refl,
       )
   says_same (found.Rate m) vs k q l n =
       let x = rate m in (
-        old-returns x [] Historical e.historical refl h.0,
-        old-returns x [] Stress e.stress refl h.1,
-        first-new rate-in rows s x m (none_of _ (sym (ap is_some h.2) ∙ n)) refl,
-        h.3 ∙ first-unlike (right-in Dsp) rows s x refl,
-        h.4 ∙ first-unlike (right-in Sri) rows s x refl,
-        h.5 ∙ first-unlike (right-in Div) rows s x refl,
+        old_returns x [] Historical e.historical refl h.0,
+        old_returns x [] Stress e.stress refl h.1,
+        first_new rate_in rows s x m (none_of _ (sym (ap is_some h.2) ∙ n)) refl,
+        h.3 ∙ first_unlike (right_in Dsp) rows s x refl,
+        h.4 ∙ first_unlike (right_in Sri) rows s x refl,
+        h.5 ∙ first_unlike (right_in Div) rows s x refl,
         new_line x [] k q refl,
       )
   says_same (found.Right Dsp y) vs k q l n =
       let x = right Dsp y in (
-        old-returns x [] Historical e.historical refl h.0,
-        old-returns x [] Stress e.stress refl h.1,
-        h.2 ∙ first-unlike rate-in rows s x refl,
-        first-new (right-in Dsp) rows s x y (none_of _ (sym (ap is_some h.3) ∙ n)) refl,
-        h.4 ∙ first-unlike (right-in Sri) rows s x refl,
-        h.5 ∙ first-unlike (right-in Div) rows s x refl,
-        old-line x [] refl,
+        old_returns x [] Historical e.historical refl h.0,
+        old_returns x [] Stress e.stress refl h.1,
+        h.2 ∙ first_unlike rate_in rows s x refl,
+        first_new (right_in Dsp) rows s x y (none_of _ (sym (ap is_some h.3) ∙ n)) refl,
+        h.4 ∙ first_unlike (right_in Sri) rows s x refl,
+        h.5 ∙ first_unlike (right_in Div) rows s x refl,
+        old_line x [] refl,
       )
   says_same (found.Right Sri y) vs k q l n =
       let x = right Sri y in (
-        old-returns x [] Historical e.historical refl h.0,
-        old-returns x [] Stress e.stress refl h.1,
-        h.2 ∙ first-unlike rate-in rows s x refl,
-        h.3 ∙ first-unlike (right-in Dsp) rows s x refl,
-        first-new (right-in Sri) rows s x y (none_of _ (sym (ap is_some h.4) ∙ n)) refl,
-        h.5 ∙ first-unlike (right-in Div) rows s x refl,
-        old-line x [] refl,
+        old_returns x [] Historical e.historical refl h.0,
+        old_returns x [] Stress e.stress refl h.1,
+        h.2 ∙ first_unlike rate_in rows s x refl,
+        h.3 ∙ first_unlike (right_in Dsp) rows s x refl,
+        first_new (right_in Sri) rows s x y (none_of _ (sym (ap is_some h.4) ∙ n)) refl,
+        h.5 ∙ first_unlike (right_in Div) rows s x refl,
+        old_line x [] refl,
       )
   says_same (found.Right Div y) vs k q l n =
       let x = right Div y in (
-        old-returns x [] Historical e.historical refl h.0,
-        old-returns x [] Stress e.stress refl h.1,
-        h.2 ∙ first-unlike rate-in rows s x refl,
-        h.3 ∙ first-unlike (right-in Dsp) rows s x refl,
-        h.4 ∙ first-unlike (right-in Sri) rows s x refl,
-        first-new (right-in Div) rows s x y (none_of _ (sym (ap is_some h.5) ∙ n)) refl,
-        old-line x [] refl,
+        old_returns x [] Historical e.historical refl h.0,
+        old_returns x [] Stress e.stress refl h.1,
+        h.2 ∙ first_unlike rate_in rows s x refl,
+        h.3 ∙ first_unlike (right_in Dsp) rows s x refl,
+        h.4 ∙ first_unlike (right_in Sri) rows s x refl,
+        first_new (right_in Div) rows s x y (none_of _ (sym (ap is_some h.5) ∙ n)) refl,
+        old_line x [] refl,
       )
   says_same found.Unread vs k q l n =
       let x = unread in (
-        old-returns x [] Historical e.historical refl h.0,
-        old-returns x [] Stress e.stress refl h.1,
-        h.2 ∙ first-unlike rate-in rows s x refl,
-        h.3 ∙ first-unlike (right-in Dsp) rows s x refl,
-        h.4 ∙ first-unlike (right-in Sri) rows s x refl,
-        h.5 ∙ first-unlike (right-in Div) rows s x refl,
-        old-line x [] refl,
+        old_returns x [] Historical e.historical refl h.0,
+        old_returns x [] Stress e.stress refl h.1,
+        h.2 ∙ first_unlike rate_in rows s x refl,
+        h.3 ∙ first_unlike (right_in Dsp) rows s x refl,
+        h.4 ∙ first_unlike (right_in Sri) rows s x refl,
+        h.5 ∙ first_unlike (right_in Div) rows s x refl,
+        old_line x [] refl,
       )
 
 -- the whole table with one row more
-pub holds_more : (p : Parameters) (kept : List ℤ) (table : List StockRows) (rows : List Row) (s : ℕ) (f : Found) (vs : List ℤ) (k : ℕ) → Holds p kept table rows → s < length table → k ≡ 14 + length rows → Whole p f vs → taken (get_or table s no_rows) f ≡ false → Holds p (kept ++ aside f vs) (set table s (noted (get_or table s no_rows) f (length kept) k)) (rows ++ with-stock s (held f vs) ∷ [])
+pub holds_more : (p : Parameters) (kept : List ℤ) (table : List StockRows) (rows : List Row) (s : ℕ) (f : Found) (vs : List ℤ) (k : ℕ) → Holds p kept table rows → s < length table → k ≡ 14 + length rows → Whole p f vs → taken (get_or table s no_rows) f ≡ false → Holds p (kept ++ aside f vs) (set table s (noted (get_or table s no_rows) f (length kept) k)) (rows ++ with_stock s (held f vs) ∷ [])
 holds_more p kept table rows s f vs k h l q w n z m =
     let e = get_or table s no_rows in
     let new = noted e f (length kept) k in
     let inside : z < length table = omega (arith, length-set table s new) in
-    let after = rows ++ with-stock s (held f vs) ∷ [] in
+    let after = rows ++ with_stock s (held f vs) ∷ [] in
     ⊎_elim
     (λ (y : z ≡ s).
     subst (λ (i : ℕ). Says p (kept ++ aside f vs) after i (get_or (set table s new) i no_rows)) (sym y)
     (subst (Says p (kept ++ aside f vs) after s) (sym (get_or-set_same table s new no_rows l)) (says_same p kept rows s e (h s l) f vs k q w n)))
     (λ (y : z ≡ s → ⊥).
-    subst (Says p (kept ++ aside f vs) after z) (sym (get_or-set_other table s z new no_rows y)) (says_other p kept rows z (get_or table z no_rows) (h z inside) (aside f vs) (with-stock s (held f vs)) (λ i. y (sym i))))
+    subst (Says p (kept ++ aside f vs) after z) (sym (get_or-set_other table s z new no_rows y)) (says_other p kept rows z (get_or table z no_rows) (h z inside) (aside f vs) (with_stock s (held f vs)) (λ i. y (sym i))))
     (cases_eq z s)
 
 -- a table of stocks without rows
-pub holds-none : (p : Parameters) (table : List StockRows) → Blank table → Holds p [] table []
-holds-none p table b s l = subst (Says p [] [] s) (sym (b s l)) ((refl, refl, omega arith), (refl, refl, omega arith), refl, refl, refl, refl, refl)
+pub holds_none : (p : Parameters) (table : List StockRows) → Blank table → Holds p [] table []
+holds_none p table b s l = subst (Says p [] [] s) (sym (b s l)) ((refl, refl, omega arith), (refl, refl, omega arith), refl, refl, refl, refl, refl)

@@ -8,12 +8,12 @@ use Rattle.parameter_heading.specs.declared.terms.Fault.{Fault}
 use Rattle.parameter_heading.specs.declared.terms.Heading.{Heading}
 use Rattle.file_rules.specs.Rows.{File, meaning}
 use Rattle.file_rules.specs.Judged.{verdict}
-use Rattle.file_rules.proofs.SourceLaws.{passes-lawful}
-use Rattle.parameter_file.specs.Checked.{rows_in, heading-in, meaning-of}
+use Rattle.file_rules.proofs.SourceLaws.{passes_lawful}
+use Rattle.parameter_file.specs.Checked.{rows_in, heading_in, meaning_of}
 
-judged-lawful : (bytes : List ℕ) (r : Result File Fault) (h : Heading) → verdict bytes ≡ r → is_ok r ≡ true → h ≡ heading-in r h → Lawful (meaning (record { heading = h; rows = rows_in r }))
-judged-lawful bytes (Ok f) h e ok same = subst (λ (k : Heading). Lawful (meaning (record { heading = k; rows = f.rows }))) (sym same) (passes-lawful bytes f e)
-judged-lawful bytes (Err x) h e ok same = absurd (false≢true ok)
+judged_lawful : (bytes : List ℕ) (r : Result File Fault) (h : Heading) → verdict bytes ≡ r → is_ok r ≡ true → h ≡ heading_in r h → Lawful (meaning (record { heading = h; rows = rows_in r }))
+judged_lawful bytes (Ok f) h e ok same = subst (λ (k : Heading). Lawful (meaning (record { heading = k; rows = f.rows }))) (sym same) (passes_lawful bytes f e)
+judged_lawful bytes (Err x) h e ok same = absurd (false≢true ok)
 
-pub checked-lawful : (bytes : List ℕ) (h : Heading) → is_ok (verdict bytes) ≡ true → h ≡ heading-in (verdict bytes) h → Lawful (meaning-of bytes h)
-checked-lawful bytes h ok same = judged-lawful bytes (verdict bytes) h refl ok same
+pub checked_lawful : (bytes : List ℕ) (h : Heading) → is_ok (verdict bytes) ≡ true → h ≡ heading_in (verdict bytes) h → Lawful (meaning_of bytes h)
+checked_lawful bytes h ok same = judged_lawful bytes (verdict bytes) h refl ok same

@@ -5,8 +5,8 @@ use Rattle.std.specs.Option.{unwrap_or}
 use Rattle.std.specs.List.{AllByRecursion}
 use Rattle.parameter_text.specs.declared.terms.Question.{Question}
 use Rattle.parameter_text.specs.Cuts.{cells, spliced, line_of, after_line}
-use Rattle.parameter_rows.specs.Returns.{returns-cells}
-use Rattle.parameter_text.specs.Integers.{integer, stock-cell}
+use Rattle.parameter_rows.specs.Returns.{returns_cells}
+use Rattle.parameter_text.specs.Integers.{integer, stock_cell}
 use Rattle.return_source.specs.declared.terms.ScenarioSet.TheVariants.{Historical, Stress}
 use Rattle.return_source.specs.declared.terms.EntitlementType.TheVariants.{Dsp, Sri, Div}
 use Rattle.return_source.specs.declared.terms.Parameters.{Parameters}
@@ -15,9 +15,9 @@ use Rattle.file_rules.specs.declared.terms.FieldType.TheVariants as field
 use Rattle.parameter_file.specs.declared.terms.Found.{Found}
 use Rattle.parameter_file.specs.declared.terms.Found.TheVariants as found
 use Rattle.parameter_file.specs.declared.terms.StockRows.{StockRows}
-use Rattle.file_rules.specs.Rows.{Content, returns, rate, right, unread, Row, returns-in, rate-in, right-in, or_else, first-in, unfit, first-line}
-use Rattle.return_source.specs.Lawful.{scenario-count}
-use Rattle.file_rules.specs.Judged.{field_of, rate-content, right-content, row-head, with-stock, row-cells, row_line}
+use Rattle.file_rules.specs.Rows.{Content, returns, rate, right, unread, Row, returns_in, rate_in, right_in, or_else, first_in, unfit, first_line}
+use Rattle.return_source.specs.Lawful.{scenario_count}
+use Rattle.file_rules.specs.Judged.{field_of, rate_content, right_content, row_head, with_stock, row_cells, row_line}
 
 -- a stock without rows
 abbrev pub no_rows : StockRows
@@ -62,8 +62,8 @@ noted e (found.Right Div x) start k = record { historical = e.historical; stress
 noted e found.Unread start k = e
 
 -- the line that question 8 names for a stock, if it is at fault
-abbrev pub fault-in : StockRows → Option ℕ
-fault-in e = cond (unfit (is_some e.historical) (is_some e.stress) (is_some e.rate)) e.line None
+abbrev pub fault_in : StockRows → Option ℕ
+fault_in e = cond (unfit (is_some e.historical) (is_some e.stress) (is_some e.rate)) e.line None
 
 -- n returns from a place
 abbrev pub kept_row : ℕ → List ℤ → Option ℕ → List ℤ
@@ -75,19 +75,19 @@ place_end n None = 0
 place_end n (Some start) = start + n
 
 -- a stock's returns are those kept at its place
-abbrev pub Kept-at : ℕ → List ℤ → Option ℕ → Option (List ℤ) → Type 0
-Kept-at n kept place row = (is_some place ≡ is_some row) × (kept_row n kept place ≡ unwrap_or row []) × (place_end n place ≤ length kept)
+abbrev pub KeptAt : ℕ → List ℤ → Option ℕ → Option (List ℤ) → Type 0
+KeptAt n kept place row = (is_some place ≡ is_some row) × (kept_row n kept place ≡ unwrap_or row []) × (place_end n place ≤ length kept)
 
 -- what is kept of stock s says what the rows say of it
 abbrev pub Says : Parameters → List ℤ → List Row → ℕ → StockRows → Type 0
 Says p kept rows s e =
-    Kept-at (scenario-count p Historical) kept e.historical (first-in (returns-in Historical) rows s)
-    × Kept-at (scenario-count p Stress) kept e.stress (first-in (returns-in Stress) rows s)
-    × (e.rate ≡ first-in rate-in rows s)
-    × (e.dsp ≡ first-in (right-in Dsp) rows s)
-    × (e.sri ≡ first-in (right-in Sri) rows s)
-    × (e.div ≡ first-in (right-in Div) rows s)
-    × (e.line ≡ first-line 14 rows s)
+    KeptAt (scenario_count p Historical) kept e.historical (first_in (returns_in Historical) rows s)
+    × KeptAt (scenario_count p Stress) kept e.stress (first_in (returns_in Stress) rows s)
+    × (e.rate ≡ first_in rate_in rows s)
+    × (e.dsp ≡ first_in (right_in Dsp) rows s)
+    × (e.sri ≡ first_in (right_in Sri) rows s)
+    × (e.div ≡ first_in (right_in Div) rows s)
+    × (e.line ≡ first_line 14 rows s)
 
 abbrev pub Holds : Parameters → List ℤ → List StockRows → List Row → Type 0
 Holds p kept table rows = (s : ℕ) → s < length table → Says p kept rows s (slice_index_or table s no_rows)
@@ -98,83 +98,83 @@ Blank table = (s : ℕ) → s < length table → slice_index_or table s no_rows 
 
 -- both sets have 1 to 4,000 scenarios
 pub record Counts (p : Parameters) : Type 0 where
-  pub historical-some : 1 ≤ p.historical.count
-  pub historical-few : p.historical.count ≤ 4000
-  pub stress-some : 1 ≤ p.stress.count
-  pub stress-few : p.stress.count ≤ 4000
+  pub historical_some : 1 ≤ p.historical.count
+  pub historical_few : p.historical.count ≤ 4000
+  pub stress_some : 1 ≤ p.stress.count
+  pub stress_few : p.stress.count ≤ 4000
 
 -- the cells of a row that holds no returns
-abbrev pub other-content : FieldType → List (List ℕ) → Result Content Question
-other-content (field.Returns w) cs = Ok unread
-other-content field.FlatRate cs = rate-content cs
-other-content field.Entitlement cs = right-content cs
-other-content field.Unread cs = Ok unread
+abbrev pub other_content : FieldType → List (List ℕ) → Result Content Question
+other_content (field.Returns w) cs = Ok unread
+other_content field.FlatRate cs = rate_content cs
+other_content field.Entitlement cs = right_content cs
+other_content field.Unread cs = Ok unread
 
 -- the front of a text is a row's stock and field type, and a third cell starts at n
-pub record Head-text (text : List ℕ) (s : ℕ) (t : FieldType) (n : ℕ) (c d : List ℕ) (k : ℕ) : Type 0 where
+pub record HeadText (text : List ℕ) (s : ℕ) (t : FieldType) (n : ℕ) (c d : List ℕ) (k : ℕ) : Type 0 where
   pub within : n ≤ length text
   pub parts : text ≡ c ++ 44 ∷ (d ++ 44 ∷ drop n text)
-  pub stock : stock-cell c ≡ Ok s
+  pub stock : stock_cell c ≡ Ok s
   pub number : integer 1 7 d ≡ Ok k
   pub kind : field_of k ≡ t
 
 abbrev pub Headed : List ℕ → ℕ → FieldType → ℕ → Type 0
-Headed text s t n = (c : List ℕ) × (d : List ℕ) × (k : ℕ) × Head-text text s t n c d k
+Headed text s t n = (c : List ℕ) × (d : List ℕ) × (k : ℕ) × HeadText text s t n c d k
 
 -- the first two cells of a line are a row's stock and field type, and these are the others
-abbrev pub Line-head : List (List ℕ) → ℕ → FieldType → List (List ℕ) → Type 0
-Line-head all s t cs = (c : List ℕ) × (d : List ℕ) × (all ≡ c ∷ d ∷ cs) × (row-head c d ≡ Ok (s, t))
+abbrev pub LineHead : List (List ℕ) → ℕ → FieldType → List (List ℕ) → Type 0
+LineHead all s t cs = (c : List ℕ) × (d : List ℕ) × (all ≡ c ∷ d ∷ cs) × (row_head c d ≡ Ok (s, t))
 
 -- the head of a row fails this question
-abbrev pub Faulty-head : List (List ℕ) → Question → Type 0
-Faulty-head all q = (p : Parameters) → row-cells p all ≡ Err q
+abbrev pub FaultyHead : List (List ℕ) → Question → Type 0
+FaultyHead all q = (p : Parameters) → row_cells p all ≡ Err q
 
 -- the cells after the head were read: what they hold, what was kept of them, and where the next line starts
-pub record Cells-read (j : Result Content Question) (text : List ℕ) (before after : List ℤ) (f : Found) (next : ℕ) (vs : List ℤ) : Type 0 where
+pub record CellsRead (j : Result Content Question) (text : List ℕ) (before after : List ℤ) (f : Found) (next : ℕ) (vs : List ℤ) : Type 0 where
   pub said : j ≡ Ok (held f vs)
   pub kept : after ≡ before ++ aside f vs
   pub within : next ≤ length text
   pub rest : drop next text ≡ after_line text
   pub long : 2 * length (aside f vs) ≤ next + 1
 
-abbrev pub Read-cells : Result Content Question → List ℕ → List ℤ → List ℤ → Result (Found × ℕ) Question → Type 0
-Read-cells j text before after (Ok r) = (vs : List ℤ) × Cells-read j text before after r.0 r.1 vs
-Read-cells j text before after (Err q) = j ≡ Err q
+abbrev pub ReadCells : Result Content Question → List ℕ → List ℤ → List ℤ → Result (Found × ℕ) Question → Type 0
+ReadCells j text before after (Ok r) = (vs : List ℤ) × CellsRead j text before after r.0 r.1 vs
+ReadCells j text before after (Err q) = j ≡ Err q
 
 -- a cell has no LF
-abbrev pub One-line : List ℕ → Type 0
-One-line c = AllByRecursion (λ x. x ≢ 10) c
+abbrev pub OneLine : List ℕ → Type 0
+OneLine c = AllByRecursion (λ x. x ≢ 10) c
 
 -- the cells after the head were judged: what they hold, and what was kept of them
-pub record Cells-judged (j : Result Content Question) (cs : List (List ℕ)) (before after : List ℤ) (f : Found) (vs : List ℤ) : Type 0 where
+pub record CellsJudged (j : Result Content Question) (cs : List (List ℕ)) (before after : List ℤ) (f : Found) (vs : List ℤ) : Type 0 where
   pub said : j ≡ Ok (held f vs)
   pub kept : after ≡ before ++ aside f vs
   pub long : 2 * length (aside f vs) ≤ length (spliced 44 cs) + 1
 
-abbrev pub Judged-cells : Result Content Question → List (List ℕ) → List ℤ → List ℤ → Result Found Question → Type 0
-Judged-cells j cs before after (Ok f) = (vs : List ℤ) × Cells-judged j cs before after f vs
-Judged-cells j cs before after (Err q) = j ≡ Err q
+abbrev pub JudgedCells : Result Content Question → List (List ℕ) → List ℤ → List ℤ → Result Found Question → Type 0
+JudgedCells j cs before after (Ok f) = (vs : List ℤ) × CellsJudged j cs before after f vs
+JudgedCells j cs before after (Err q) = j ≡ Err q
 
 -- a row was read from the front of a text
-pub record Row-read (p : Parameters) (text : List ℕ) (before after : List ℤ) (s : ℕ) (f : Found) (next : ℕ) (vs : List ℤ) : Type 0 where
-  pub said : row_line p (line_of text) ≡ Ok (with-stock s (held f vs))
+pub record RowRead (p : Parameters) (text : List ℕ) (before after : List ℤ) (s : ℕ) (f : Found) (next : ℕ) (vs : List ℤ) : Type 0 where
+  pub said : row_line p (line_of text) ≡ Ok (with_stock s (held f vs))
   pub kept : after ≡ before ++ aside f vs
   pub within : next ≤ length text
   pub rest : drop next text ≡ after_line text
   pub long : 2 * length (aside f vs) ≤ next
 
-abbrev pub Read-row : Parameters → List ℕ → List ℤ → List ℤ → Result (ℕ × Found × ℕ) Question → Type 0
-Read-row p text before after (Ok r) = (vs : List ℤ) × Row-read p text before after r.0 r.1 r.2 vs
-Read-row p text before after (Err q) = row_line p (line_of text) ≡ Err q
+abbrev pub ReadRow : Parameters → List ℕ → List ℤ → List ℤ → Result (ℕ × Found × ℕ) Question → Type 0
+ReadRow p text before after (Ok r) = (vs : List ℤ) × RowRead p text before after r.0 r.1 r.2 vs
+ReadRow p text before after (Err q) = row_line p (line_of text) ≡ Err q
 
 -- n returns were read from the front of a text and kept after those before
-pub record Returns-kept (n : ℕ) (text : List ℕ) (before after : List ℤ) (next : ℕ) (vs : List ℤ) : Type 0 where
-  pub said : returns-cells n (cells (line_of text)) ≡ Ok vs
+pub record ReturnsKept (n : ℕ) (text : List ℕ) (before after : List ℤ) (next : ℕ) (vs : List ℤ) : Type 0 where
+  pub said : returns_cells n (cells (line_of text)) ≡ Ok vs
   pub kept : after ≡ before ++ vs
   pub within : next ≤ length text
   pub rest : drop next text ≡ after_line text
   pub long : 2 * n ≤ next + 1
 
-abbrev pub Kept-returns : ℕ → List ℕ → List ℤ → List ℤ → Result ℕ Question → Type 0
-Kept-returns n text before after (Ok next) = (vs : List ℤ) × Returns-kept n text before after next vs
-Kept-returns n text before after (Err q) = returns-cells n (cells (line_of text)) ≡ Err q
+abbrev pub KeptReturns : ℕ → List ℕ → List ℤ → List ℤ → Result ℕ Question → Type 0
+KeptReturns n text before after (Ok next) = (vs : List ℤ) × ReturnsKept n text before after next vs
+KeptReturns n text before after (Err q) = returns_cells n (cells (line_of text)) ≡ Err q

@@ -1,7 +1,7 @@
 // The states of a parameter file: memory for one, a file received, and a file checked.
 ghost use Rattle.std.specs.Prelude.{◌≡◌, ℕ, ◌+◌, ◌*◌, ◌<◌, ◌≤◌, true, length, is_some, is_ok, vec_capacity};
-ghost use Rattle.file_rules.specs.Judged.{most_bytes, stock-places, verdict};
-ghost use Rattle.parameter_file.specs.Checked.{heading-found, heading-in, Indexed};
+ghost use Rattle.file_rules.specs.Judged.{most_bytes, stock_places, verdict};
+ghost use Rattle.parameter_file.specs.Checked.{heading_found, heading_in, Indexed};
 
 use super::terms::StockRows;
 use parameter_heading::Heading;
@@ -13,7 +13,7 @@ pub struct Memory {
     pub(crate) kept: Vec<i32>,
     pub(crate) table: Vec<StockRows>,
     ghost room: { length + 8000 ≤ 2 * vec_capacity kept },
-    ghost places: { stock-places ≤ vec_capacity table },
+    ghost places: { stock_places ≤ vec_capacity table },
 }
 
 // A file as it was received: its bytes, of which nothing is known yet, and the memory for its check.
@@ -24,9 +24,9 @@ pub struct Received<'a> {
     pub(crate) table: Vec<StockRows>,
     pub(crate) found: Option<Heading>,
     ghost room: { (length bytes.now ≤ most_bytes → length bytes.now + 8000 ≤ 2 * vec_capacity kept) },
-    ghost places: { stock-places ≤ vec_capacity table },
-    ghost heads: { (is_some found ≡ true → found ≡ heading-found (verdict bytes.now)) },
-    ghost size: { (is_some found ≡ true → length table.items ≡ stock-places) },
+    ghost places: { stock_places ≤ vec_capacity table },
+    ghost heads: { (is_some found ≡ true → found ≡ heading_found (verdict bytes.now)) },
+    ghost size: { (is_some found ≡ true → length table.items ≡ stock_places) },
     ghost index: { (is_some found ≡ true → Indexed bytes.now kept.items table.items) },
 }
 
@@ -38,7 +38,7 @@ pub struct CheckedFile<'a> {
     pub(crate) kept: Vec<i32>,
     pub(crate) table: Vec<StockRows>,
     ghost passed: { is_ok (verdict bytes.now) ≡ true },
-    ghost heads: { heading ≡ heading-in (verdict bytes.now) heading },
-    ghost size: { length table.items ≡ stock-places },
+    ghost heads: { heading ≡ heading_in (verdict bytes.now) heading },
+    ghost size: { length table.items ≡ stock_places },
     ghost index: { Indexed bytes.now kept.items table.items },
 }

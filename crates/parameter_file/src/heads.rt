@@ -1,7 +1,7 @@
 // The head of a row: its stock and its field type.
 ghost use Rattle.std.specs.Prelude.{◌≡◌, ℕ, List, [], ◌∷◌, IfSome};
 ghost use Rattle.std.specs.Option.{option_map};
-ghost use Rattle.parameter_text.specs.Cuts.{cells, parts-of};
+ghost use Rattle.parameter_text.specs.Cuts.{cells, parts_of};
 ghost use Rattle.file_rules.specs.Judged.{field_of};
 ghost use Rattle.parameter_file.specs.Table.{Headed};
 

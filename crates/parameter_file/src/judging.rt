@@ -1,11 +1,11 @@
 // A whole file, judged into memory that is there already.
 ghost use Rattle.std.specs.Prelude.{◌≡◌, ◌+◌, ◌*◌, ◌≤◌, length, vec_capacity, MatchResult};
-ghost use Rattle.parameter_heading.specs.Laid.{Tail-figures};
-ghost use Rattle.file_rules.specs.Judged.{most_bytes, stock-places};
-ghost use Rattle.file_rules.specs.Laid.{Files-pass};
+ghost use Rattle.parameter_heading.specs.Laid.{TailFigures};
+ghost use Rattle.file_rules.specs.Judged.{most_bytes, stock_places};
+ghost use Rattle.file_rules.specs.Laid.{FilesPass};
 ghost use Rattle.parameter_file.specs.Table.{Counts};
-ghost use Rattle.parameter_file.specs.Reading.{Takes-rows};
-ghost use Rattle.parameter_file.specs.Checked.{Judged-file};
+ghost use Rattle.parameter_file.specs.Reading.{TakesRows};
+ghost use Rattle.parameter_file.specs.Checked.{JudgedFile};
 
 use super::reading::take_rows;
 use super::table::earliest_fault;
@@ -39,12 +39,12 @@ fn rows_after(
 ) -> Result<(), Fault>
     requires room { length text.now + 8000 ≤ 2 * vec_capacity kept.old }
     requires short { length text.now ≤ most_bytes }
-    requires places { stock-places ≤ vec_capacity table.old }
+    requires places { stock_places ≤ vec_capacity table.old }
     requires counts { Counts p.now }
-    ensures rows { Takes-rows p.now text.now kept.new.items table.new.items result }
-    ensures size { length table.new.items ≡ stock-places }
+    ensures rows { TakesRows p.now text.now kept.new.items table.new.items result }
+    ensures size { length table.new.items ≡ stock_places }
     ensures room { vec_capacity kept.old ≤ vec_capacity kept.new }
-    ensures places { stock-places ≤ vec_capacity table.new }
+    ensures places { stock_places ≤ vec_capacity table.new }
 {
     kept.clear();
     table.clear();
@@ -59,12 +59,12 @@ pub(crate) fn judge(
     table: &mut Vec<StockRows>,
 ) -> Result<Heading, Fault>
     requires room { length bytes.now ≤ most_bytes → length bytes.now + 8000 ≤ 2 * vec_capacity kept.old }
-    requires places { stock-places ≤ vec_capacity table.old }
-    ensures file { Judged-file bytes.now kept.new.items table.new.items result }
+    requires places { stock_places ≤ vec_capacity table.old }
+    ensures file { JudgedFile bytes.now kept.new.items table.new.items result }
     ensures room { length bytes.now ≤ most_bytes → length bytes.now + 8000 ≤ 2 * vec_capacity kept.new }
-    ensures places { stock-places ≤ vec_capacity table.new }
-    ensures law { Files-pass }
-    ensures figures { Tail-figures }
+    ensures places { stock_places ≤ vec_capacity table.new }
+    ensures law { FilesPass }
+    ensures figures { TailFigures }
 {
     if bytes.is_empty() || bytes.len() > MOST_BYTES {
         return Err(Fault {

@@ -1,10 +1,10 @@
 // Rows of one or four cells: a flat rate, and an entitlement.
 ghost use Rattle.std.specs.Prelude.{◌≡◌, ℕ, ◌≤◌, [], ℤ, unsigned_abs};
 ghost use Rattle.parameter_text.specs.Questions.{both as both_of, seen_as};
-ghost use Rattle.parameter_text.specs.Decimals.{decimal, place-count};
+ghost use Rattle.parameter_text.specs.Decimals.{decimal, place_count};
 ghost use Rattle.parameter_text.specs.Left.{cells_left};
-ghost use Rattle.file_rules.specs.Judged.{type-cell, rate-content, right-cells, right-content};
-ghost use Rattle.parameter_file.specs.declared.terms.Found.{Found as The-found};
+ghost use Rattle.file_rules.specs.Judged.{type_cell, rate_content, right_cells, right_content};
+ghost use Rattle.parameter_file.specs.declared.terms.Found.{Found as TheFound};
 ghost use Rattle.parameter_file.specs.Table.{held};
 
 use super::terms::Found;
@@ -53,7 +53,7 @@ pub(crate) fn both<X: Drop, Y: Drop>(
 fn size(rule: &DecimalRule, cell: &[u8]) -> Result<u32, Question>
     requires low { unsigned_abs rule.now.low ≤ 99990000 }
     requires high { unsigned_abs rule.now.high ≤ 99990000 }
-    ensures { result ≡ seen_as unsigned_abs (decimal (place-count rule.now.places) rule.now.low rule.now.high cell.now) }
+    ensures { result ≡ seen_as unsigned_abs (decimal (place_count rule.now.places) rule.now.low rule.now.high cell.now) }
 {
     match rule.value(cell) {
         Ok(v) => Ok(v.unsigned_abs() as u32),
@@ -62,7 +62,7 @@ fn size(rule: &DecimalRule, cell: &[u8]) -> Result<u32, Question>
 }
 
 fn entitlement_type(cell: &[u8]) -> Result<EntitlementType, Question>
-    ensures { result ≡ type-cell cell.now }
+    ensures { result ≡ type_cell cell.now }
 {
     match TYPES.number(cell) {
         Ok(1) => Ok(EntitlementType::Dsp),
@@ -74,7 +74,7 @@ fn entitlement_type(cell: &[u8]) -> Result<EntitlementType, Question>
 
 // A flat rate from the cells that are left.
 pub(crate) fn flat_rate(cells: Cells<'_>) -> Result<Found, Question>
-    ensures { seen_as (λ (f : The-found). held f []) result ≡ rate-content (cells_left cells.entry) }
+    ensures { seen_as (λ (f : TheFound). held f []) result ≡ rate_content (cells_left cells.entry) }
 {
     let mut left = cells;
     let Some(cell) = left.next_cell() else {
@@ -91,7 +91,7 @@ pub(crate) fn flat_rate(cells: Cells<'_>) -> Result<Found, Question>
 
 // An entitlement by its four cells.
 fn right(kind: &[u8], price: &[u8], short: &[u8], long: &[u8]) -> Result<Found, Question>
-    ensures { seen_as (λ (f : The-found). held f []) result ≡ right-cells kind.now price.now short.now long.now }
+    ensures { seen_as (λ (f : TheFound). held f []) result ≡ right_cells kind.now price.now short.now long.now }
 {
     let percentages = both(size(&PERCENTAGE, short), size(&PERCENTAGE, long));
     let priced = both(size(&PRICE, price), percentages);
@@ -106,7 +106,7 @@ fn right(kind: &[u8], price: &[u8], short: &[u8], long: &[u8]) -> Result<Found, 
 
 // An entitlement from the cells that are left.
 pub(crate) fn entitlement(cells: Cells<'_>) -> Result<Found, Question>
-    ensures { seen_as (λ (f : The-found). held f []) result ≡ right-content (cells_left cells.entry) }
+    ensures { seen_as (λ (f : TheFound). held f []) result ≡ right_content (cells_left cells.entry) }
 {
     let mut left = cells;
     let Some(kind) = left.next_cell() else {

@@ -1,9 +1,9 @@
 // What a checked file says, found by its index.
 ghost use Rattle.std.specs.Prelude.{◌≡◌};
 ghost use Rattle.std.specs.Option.{option_map};
-ghost use Rattle.return_source.specs.Meaning.{tier-of, tier-by as tier-of-rows};
+ghost use Rattle.return_source.specs.Meaning.{tier_of, tier_by as tier_of_rows};
 ghost use Rattle.file_rules.specs.Judged.{verdict};
-ghost use Rattle.parameter_file.specs.Checked.{meaning-of, rows_in, place-from, Places};
+ghost use Rattle.parameter_file.specs.Checked.{meaning_of, rows_in, place_from, Places};
 ghost use Rattle.parameter_file.specs.Table.{Says};
 
 use super::file::CheckedFile;
@@ -26,7 +26,7 @@ impl<'a> CheckedFile<'a> {
 
     // The entitlement of a stock and type, if there is one.
     pub(crate) fn right_of(&self, kind: EntitlementType, stock: u32) -> Option<Entitlement>
-        ensures { result ≡ (meaning-of self.now.bytes.now self.now.heading).entitlement kind stock }
+        ensures { result ≡ (meaning_of self.now.bytes.now self.now.heading).entitlement kind stock }
     {
         let rows = self.rows_of(stock);
         match kind {
@@ -38,7 +38,7 @@ impl<'a> CheckedFile<'a> {
 
     // Where the returns of a stock start, and how many there are.
     fn place_of(&self, set: ScenarioSet, stock: u32) -> Option<(usize, usize)>
-        ensures { Places self.now.kept.items ((meaning-of self.now.bytes.now self.now.heading).returns set stock) result }
+        ensures { Places self.now.kept.items ((meaning_of self.now.bytes.now self.now.heading).returns set stock) result }
     {
         let rows = self.rows_of(stock);
         match set {
@@ -52,7 +52,7 @@ impl<'a> CheckedFile<'a> {
 
     // The returns of a stock in a set of scenarios, in hundred-millionths, if it has them.
     pub(crate) fn row_of(&self, set: ScenarioSet, stock: u32) -> Option<&[i32]>
-        ensures { option_map (λ x. x.now) result ≡ (meaning-of self.now.bytes.now self.now.heading).returns set stock }
+        ensures { option_map (λ x. x.now) result ≡ (meaning_of self.now.bytes.now self.now.heading).returns set stock }
     {
         let Some((start, count)) = self.place_of(set, stock) else {
             return None;
@@ -64,7 +64,7 @@ impl<'a> CheckedFile<'a> {
 }
 
 fn placed(start: Option<usize>, count: u32) -> Option<(usize, usize)>
-    ensures { result ≡ place-from start count }
+    ensures { result ≡ place_from start count }
 {
     match start {
         Some(start) => Some((start, count as usize)),
@@ -74,7 +74,7 @@ fn placed(start: Option<usize>, count: u32) -> Option<(usize, usize)>
 
 // Both return rows, a flat rate, or neither.
 pub(crate) fn tier_by(historical: bool, stress: bool, flat: bool) -> Option<Tier>
-    ensures { result ≡ tier-of-rows historical stress flat }
+    ensures { result ≡ tier_of_rows historical stress flat }
 {
     if historical && stress {
         Some(Tier::Portfolio)

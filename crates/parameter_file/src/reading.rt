@@ -1,8 +1,8 @@
 // All rows of a text, one after the other.
 ghost use Rattle.std.specs.Prelude.{◌≡◌, ◌+◌, ◌*◌, ◌≤◌, [], length, vec_len, vec_capacity};
-ghost use Rattle.file_rules.specs.Judged.{most_bytes, stock-places};
+ghost use Rattle.file_rules.specs.Judged.{most_bytes, stock_places};
 ghost use Rattle.parameter_file.specs.Table.{Blank, Counts};
-ghost use Rattle.parameter_file.specs.Reading.{Takes-row, Takes-rows};
+ghost use Rattle.parameter_file.specs.Reading.{TakesRow, TakesRows};
 
 use super::rows::read_row;
 use super::terms::StockRows;
@@ -23,8 +23,8 @@ fn take_row(
 ) -> Result<usize, Question>
     requires room { vec_len kept.old + 4000 ≤ vec_capacity kept.old }
     requires counts { Counts p.now }
-    requires places { length table.old ≡ stock-places }
-    ensures row { Takes-row p.now text.now line kept.old.items kept.new.items table.old table.new result }
+    requires places { length table.old ≡ stock_places }
+    ensures row { TakesRow p.now text.now line kept.old.items kept.new.items table.old table.new result }
     ensures room { vec_capacity kept.old ≤ vec_capacity kept.new }
 {
     let start = kept.len();
@@ -52,9 +52,9 @@ pub(crate) fn take_rows(
     requires short { length text.now ≤ most_bytes }
     requires none { kept.old.items ≡ [] }
     requires counts { Counts p.now }
-    requires places { length table.old ≡ stock-places }
+    requires places { length table.old ≡ stock_places }
     requires blank { Blank table.old }
-    ensures rows { Takes-rows p.now text.now kept.new.items table.new result }
+    ensures rows { TakesRows p.now text.now kept.new.items table.new result }
     ensures room { vec_capacity kept.old ≤ vec_capacity kept.new }
 {
     let mut at: usize = 0;

@@ -2,13 +2,13 @@
 ghost use Rattle.std.specs.Prelude.{◌≡◌, ◌+◌, ◌≤◌, [], length, vec_len, vec_capacity, MatchResult};
 ghost use Rattle.std.specs.List.{AllByRecursion};
 ghost use Rattle.parameter_text.specs.Cuts.{cells, line_of, after_line};
-ghost use Rattle.parameter_rows.specs.Returns.{returns-cells};
-ghost use Rattle.return_source.specs.Lawful.{scenario-count};
+ghost use Rattle.parameter_rows.specs.Returns.{returns_cells};
+ghost use Rattle.return_source.specs.Lawful.{scenario_count};
 ghost use Rattle.file_rules.specs.Judged.{content};
 ghost use Rattle.parameter_text.specs.Left.{cells_left};
 ghost use Rattle.parameter_text.specs.Questions.{seen_as};
-ghost use Rattle.parameter_file.specs.declared.terms.Found.{Found as The-found};
-ghost use Rattle.parameter_file.specs.Table.{held, other-content, Line-head, Faulty-head, One-line, Headed, Counts, Kept-returns, Read-cells, Judged-cells, Read-row};
+ghost use Rattle.parameter_file.specs.declared.terms.Found.{Found as TheFound};
+ghost use Rattle.parameter_file.specs.Table.{held, other_content, LineHead, FaultyHead, OneLine, Headed, Counts, KeptReturns, ReadCells, JudgedCells, ReadRow};
 
 use super::heads::{FIELD_TYPES, field_type, usual_head};
 use super::others::{both, entitlement, flat_rate};
@@ -20,7 +20,7 @@ use return_source::{Parameters, ScenarioSet};
 
 // How many scenarios a set has.
 fn count(p: &Parameters, set: ScenarioSet) -> usize
-    ensures { result ≡ scenario-count p.now set }
+    ensures { result ≡ scenario_count p.now set }
 {
     match set {
         ScenarioSet::Historical => p.historical.count as usize,
@@ -32,7 +32,7 @@ fn count(p: &Parameters, set: ScenarioSet) -> usize
 fn keep_returns(text: &[u8], n: usize, kept: &mut Vec<i32>) -> Result<usize, Question>
     requires room { vec_len kept.old + n ≤ vec_capacity kept.old }
     requires some { 1 ≤ n }
-    ensures kept { Kept-returns n text.now kept.old.items kept.new.items result }
+    ensures kept { KeptReturns n text.now kept.old.items kept.new.items result }
     ensures room { vec_capacity kept.old ≤ vec_capacity kept.new }
 {
     let start = kept.len();
@@ -50,7 +50,7 @@ fn rest_of_row(
 ) -> Result<(Found, usize), Question>
     requires room { vec_len kept.old + 4000 ≤ vec_capacity kept.old }
     requires counts { Counts p.now }
-    ensures cells { Read-cells (content p.now kind (cells (line_of text.now))) text.now kept.old.items kept.new.items result }
+    ensures cells { ReadCells (content p.now kind (cells (line_of text.now))) text.now kept.old.items kept.new.items result }
     ensures room { vec_capacity kept.old ≤ vec_capacity kept.new }
 {
     if let FieldType::Returns(set) = kind {
@@ -68,7 +68,7 @@ fn rest_of_row(
 
 // The cells of a row that holds no returns.
 fn other_cells(kind: FieldType, cells: Cells<'_>) -> Result<Found, Question>
-    ensures { seen_as (λ (f : The-found). held f []) result ≡ other-content kind (cells_left cells.entry) }
+    ensures { seen_as (λ (f : TheFound). held f []) result ≡ other_content kind (cells_left cells.entry) }
 {
     match kind {
         FieldType::FlatRate => flat_rate(cells),
@@ -79,7 +79,7 @@ fn other_cells(kind: FieldType, cells: Cells<'_>) -> Result<Found, Question>
 
 // The head of a line, and the cells after it.
 fn line_head(line: &[u8]) -> Result<(u32, FieldType, Cells<'_>), Question>
-    ensures { MatchResult result (λ h. Line-head (cells line.now) h.0 h.1 (cells_left h.2)) (λ q. Faulty-head (cells line.now) q) }
+    ensures { MatchResult result (λ h. LineHead (cells line.now) h.0 h.1 (cells_left h.2)) (λ q. FaultyHead (cells line.now) q) }
 {
     let mut cells = Cells::new(line);
     let Some(first) = cells.next_cell() else {
@@ -103,8 +103,8 @@ fn judged_cells(
 ) -> Result<Found, Question>
     requires room { vec_len kept.old + 4000 ≤ vec_capacity kept.old }
     requires counts { Counts p.now }
-    requires line { AllByRecursion One-line (cells_left cells) }
-    ensures cells { Judged-cells (content p.now kind (cells_left cells.entry)) (cells_left cells.entry) kept.old.items kept.new.items result }
+    requires line { AllByRecursion OneLine (cells_left cells) }
+    ensures cells { JudgedCells (content p.now kind (cells_left cells.entry)) (cells_left cells.entry) kept.old.items kept.new.items result }
     ensures room { vec_capacity kept.old ≤ vec_capacity kept.new }
 {
     if let FieldType::Returns(set) = kind {
@@ -127,7 +127,7 @@ fn judged_row(
 ) -> Result<(u32, Found, usize), Question>
     requires room { vec_len kept.old + 4000 ≤ vec_capacity kept.old }
     requires counts { Counts p.now }
-    ensures row { Read-row p.now text.now kept.old.items kept.new.items result }
+    ensures row { ReadRow p.now text.now kept.old.items kept.new.items result }
     ensures room { vec_capacity kept.old ≤ vec_capacity kept.new }
 {
     let (line, next) = front_line(text);
@@ -152,7 +152,7 @@ fn headed_row(
     requires room { vec_len kept.old + 4000 ≤ vec_capacity kept.old }
     requires counts { Counts p.now }
     requires head { Headed text.now number kind start }
-    ensures row { Read-row p.now text.now kept.old.items kept.new.items result }
+    ensures row { ReadRow p.now text.now kept.old.items kept.new.items result }
     ensures room { vec_capacity kept.old ≤ vec_capacity kept.new }
 {
     match rest_of_row(p, kind, &text[start..], kept) {
@@ -170,7 +170,7 @@ pub(crate) fn read_row(
 ) -> Result<(u32, Found, usize), Question>
     requires room { vec_len kept.old + 4000 ≤ vec_capacity kept.old }
     requires counts { Counts p.now }
-    ensures row { Read-row p.now text.now kept.old.items kept.new.items result }
+    ensures row { ReadRow p.now text.now kept.old.items kept.new.items result }
     ensures room { vec_capacity kept.old ≤ vec_capacity kept.new }
 {
     match usual_head(text) {

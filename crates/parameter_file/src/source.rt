@@ -1,13 +1,13 @@
 // A checked file behind the interface of a return source.
-ghost use Rattle.parameter_file.specs.Checked.{meaning-of};
-ghost use Rattle.parameter_file.specs.SourceLaw.{checked-lawful};
+ghost use Rattle.parameter_file.specs.Checked.{meaning_of};
+ghost use Rattle.parameter_file.specs.SourceLaw.{checked_lawful};
 
 use super::file::CheckedFile;
 use super::questions::tier_by;
 use return_source::{EntitlementType, Parameters, ReturnSource, RowRefusal, ScenarioSet, Tier};
 
 impl ReturnSource for CheckedFile<'_> {
-    ghost meaning = { λ f. meaning-of f.bytes.now f.heading };
+    ghost meaning = { λ f. meaning_of f.bytes.now f.heading };
 
     fn parameters(&self) -> Parameters {
         self.heading.parameters
@@ -45,5 +45,5 @@ impl ReturnSource for CheckedFile<'_> {
         Ok(row.len())
     }
 
-    ghost lawful = { λ f. checked-lawful f.bytes.now f.heading f.passed f.heads };
+    ghost lawful = { λ f. checked_lawful f.bytes.now f.heading f.passed f.heads };
 }

@@ -1,9 +1,9 @@
 // From bytes to a checked file: memory, a file received, its check, and the file checked.
 ghost use Rattle.std.specs.Prelude.{◌≡◌, ◌≤◌, min, true, length, is_some, is_ok, IfOk, Ok, Err, MatchResult};
-ghost use Rattle.parameter_heading.specs.Laid.{Tail-figures};
+ghost use Rattle.parameter_heading.specs.Laid.{TailFigures};
 ghost use Rattle.file_rules.specs.Judged.{most_bytes, verdict};
-ghost use Rattle.file_rules.specs.Laid.{Files-pass};
-ghost use Rattle.parameter_file.specs.Checked.{check-answer, file-of};
+ghost use Rattle.file_rules.specs.Laid.{FilesPass};
+ghost use Rattle.parameter_file.specs.Checked.{check_answer, file_of};
 
 use super::file::{CheckedFile, Memory, Received};
 use super::judging::{MOST_BYTES, STOCK_PLACES, judge};
@@ -51,12 +51,12 @@ impl<'a> Received<'a> {
 
     // Does the file pass, and if not, which is its first fault?
     pub fn check(&mut self) -> Result<(), Fault>
-        ensures answer { result ≡ check-answer (verdict self.old.bytes.now) }
+        ensures answer { result ≡ check_answer (verdict self.old.bytes.now) }
         ensures fault { MatchResult result (λ _. is_ok (verdict self.old.bytes.now) ≡ true) (λ e. verdict self.old.bytes.now ≡ Err e) }
         ensures found { is_some self.new.found ≡ is_ok result }
         ensures bytes { self.new.bytes.now ≡ self.old.bytes.now }
-        ensures law { Files-pass }
-        ensures figures { Tail-figures }
+        ensures law { FilesPass }
+        ensures figures { TailFigures }
     {
         self.found = None;
         let bytes = self.bytes;
@@ -73,7 +73,7 @@ impl<'a> Received<'a> {
     pub fn checked(self) -> CheckedFile<'a>
         requires { is_some self.found ≡ true }
         ensures bytes { result.bytes.now ≡ self.entry.bytes.now }
-        ensures meaning { verdict self.entry.bytes.now ≡ Ok (file-of self.entry.bytes.now result.heading) }
+        ensures meaning { verdict self.entry.bytes.now ≡ Ok (file_of self.entry.bytes.now result.heading) }
     {
         let Received {
             bytes,

@@ -1,11 +1,11 @@
 // A checked file in numbers, and the examination of a file from its bytes.
 ghost use Rattle.std.specs.Prelude.{◌≡◌, ◌+◌, ◌≤◌, length, Ok, slice_index_or};
-ghost use Rattle.return_source.specs.Meaning.{tier-by as tier-of-rows};
+ghost use Rattle.return_source.specs.Meaning.{tier_by as tier_of_rows};
 ghost use Rattle.return_source.specs.declared.terms.Tier.TheVariants.{Portfolio, Flat};
-ghost use Rattle.file_rules.specs.Judged.{stock-places, verdict};
+ghost use Rattle.file_rules.specs.Judged.{stock_places, verdict};
 ghost use Rattle.parameter_file.specs.Table.{no_rows};
-ghost use Rattle.file_rules.specs.Laid.{Files-pass};
-ghost use Rattle.parameter_file.specs.Checked.{file-of, tally, yes, in-tier, tier-in, rights-in, summary as summary-of, summarised, Examined};
+ghost use Rattle.file_rules.specs.Laid.{FilesPass};
+ghost use Rattle.parameter_file.specs.Checked.{file_of, tally, yes, in_tier, tier_in, rights_in, summary as summary_of, summarised, Examined};
 
 use super::file::{CheckedFile, Memory, Received};
 use super::questions::tier_by;
@@ -14,7 +14,7 @@ use return_source::Tier;
 use std::alloc::Global;
 
 fn is_in(tier: Tier, found: Option<Tier>) -> bool
-    ensures { result ≡ in-tier tier found }
+    ensures { result ≡ in_tier tier found }
 {
     match (tier, found) {
         (Tier::Portfolio, Some(Tier::Portfolio)) => true,
@@ -25,7 +25,7 @@ fn is_in(tier: Tier, found: Option<Tier>) -> bool
 
 impl StockRows {
     fn is_in(&self, tier: Tier) -> bool
-        ensures { result ≡ in-tier tier (tier-in self.now) }
+        ensures { result ≡ in_tier tier (tier_in self.now) }
     {
         is_in(
             tier,
@@ -39,7 +39,7 @@ impl StockRows {
 
     // How many entitlements the stock has.
     fn rights(&self) -> u32
-        ensures value { result ≡ rights-in self.now }
+        ensures value { result ≡ rights_in self.now }
         ensures few { result ≤ 3 }
     {
         self.dsp.is_some() as u32 + self.sri.is_some() as u32 + self.div.is_some() as u32
@@ -48,10 +48,10 @@ impl StockRows {
 
 // How many stocks of the table stand in the portfolio tier and in the flat tier, and how many entitlements there are.
 fn counts(table: &[StockRows]) -> (u32, u32, u32)
-    requires { length table.now ≤ stock-places }
-    ensures portfolio { result.0 ≡ tally (λ s. yes (in-tier Portfolio (tier-in (slice_index_or table.now s no_rows)))) (length table.now) }
-    ensures flat { result.1 ≡ tally (λ s. yes (in-tier Flat (tier-in (slice_index_or table.now s no_rows)))) (length table.now) }
-    ensures rights { result.2 ≡ tally (λ s. rights-in (slice_index_or table.now s no_rows)) (length table.now) }
+    requires { length table.now ≤ stock_places }
+    ensures portfolio { result.0 ≡ tally (λ s. yes (in_tier Portfolio (tier_in (slice_index_or table.now s no_rows)))) (length table.now) }
+    ensures flat { result.1 ≡ tally (λ s. yes (in_tier Flat (tier_in (slice_index_or table.now s no_rows)))) (length table.now) }
+    ensures rights { result.2 ≡ tally (λ s. rights_in (slice_index_or table.now s no_rows)) (length table.now) }
 {
     let mut portfolio = 0u32;
     let mut flat = 0u32;
@@ -66,8 +66,8 @@ fn counts(table: &[StockRows]) -> (u32, u32, u32)
 
 impl<'a> CheckedFile<'a> {
     fn counted(&self) -> Summary
-        ensures file { verdict self.now.bytes.now ≡ Ok (file-of self.now.bytes.now self.now.heading) }
-        ensures summary { result ≡ summary-of (file-of self.now.bytes.now self.now.heading) }
+        ensures file { verdict self.now.bytes.now ≡ Ok (file_of self.now.bytes.now self.now.heading) }
+        ensures summary { result ≡ summary_of (file_of self.now.bytes.now self.now.heading) }
     {
         let (portfolio_stocks, flat_stocks, entitlements) = counts(self.table.as_slice());
         Summary {
@@ -89,7 +89,7 @@ impl<'a> CheckedFile<'a> {
 // A file from its bytes: its check, and what it holds in numbers if it passes.
 pub fn examine(bytes: &[u8], heap: Global) -> Result<Summary, Refusal>
     ensures answer { Examined (summarised (verdict bytes.now)) result }
-    ensures law { Files-pass }
+    ensures law { FilesPass }
 {
     let memory = match Memory::for_file(bytes.len(), heap) {
         Ok(memory) => memory,

@@ -1,7 +1,7 @@
 // What the check keeps of each stock.
 ghost use Rattle.std.specs.Prelude.{◌≡◌, length, slice_index_or};
-ghost use Rattle.file_rules.specs.Rows.{earlier as earlier-of, earliest, unfit};
-ghost use Rattle.parameter_file.specs.Table.{no_rows, taken, noted, fault-in, first_of};
+ghost use Rattle.file_rules.specs.Rows.{earlier as earlier_of, earliest, unfit};
+ghost use Rattle.parameter_file.specs.Table.{no_rows, taken, noted, fault_in, first_of};
 
 use super::terms::{Found, StockRows};
 use return_source::{EntitlementType, ScenarioSet};
@@ -60,7 +60,7 @@ impl StockRows {
 
     // The line that the last question names for this stock, if it is at fault.
     fn fault(&self) -> Option<u32>
-        ensures { result ≡ fault-in self.now }
+        ensures { result ≡ fault_in self.now }
     {
         if is_unfit(
             self.historical.is_some(),
@@ -92,7 +92,7 @@ fn is_unfit(historical: bool, stress: bool, flat: bool) -> bool
 }
 
 fn earlier(a: Option<u32>, b: Option<u32>) -> Option<u32>
-    ensures { result ≡ earlier-of a b }
+    ensures { result ≡ earlier_of a b }
 {
     match (a, b) {
         (None, o) => o,
@@ -103,7 +103,7 @@ fn earlier(a: Option<u32>, b: Option<u32>) -> Option<u32>
 
 // The earliest line that the last question names.
 pub(crate) fn earliest_fault(table: &[StockRows]) -> Option<u32>
-    ensures { result ≡ earliest (λ s. fault-in (slice_index_or table.now s no_rows)) (length table.now) }
+    ensures { result ≡ earliest (λ s. fault_in (slice_index_or table.now s no_rows)) (length table.now) }
 {
     let mut found = None;
     for rows in table {

@@ -3,29 +3,29 @@
 use Rattle.std.specs.Prelude.{◌≡◌, ℕ, ◌+◌, ◌-◌, ◌*◌, ◌<◌, ◌≤◌, max, List, [], ◌∷◌, ◌++◌, length, pos, Ok, ◌≢◌, slice_index_or}
 use Rattle.std.specs.List.{AllByRecursion}
 use Rattle.parameter_text.specs.Cuts.{spliced}
-use Rattle.parameter_text.specs.Dates.{Writes-date}
+use Rattle.parameter_text.specs.Dates.{WritesDate}
 use Rattle.parameter_text.specs.Decimals.{Spells}
-use Rattle.parameter_text.specs.Integers.{Writes, Writes-stock}
-use Rattle.return_source.specs.Lawful.{Lawful-parameters}
+use Rattle.parameter_text.specs.Integers.{Writes, WritesStock}
+use Rattle.return_source.specs.Lawful.{LawfulParameters}
 use Rattle.parameter_heading.specs.declared.terms.Heading.{Heading}
-use Rattle.parameter_heading.specs.Names.{valuation-date, historical-weight, stress-weight, historical-count, stress-count, stv-count, historical-level, stress-level, historical-measure, stress-measure, rounding, holiday-factor, instrument-id, field-type}
-use Rattle.parameter_heading.specs.Headings.{tail-count, heading}
+use Rattle.parameter_heading.specs.Names.{valuation_date_name, historical_weight_name, stress_weight_name, historical_count_name, stress_count_name, stv_count_name, historical_level_name, stress_level_name, historical_measure_name, stress_measure_name, rounding, holiday_factor_name, instrument_id_name, field_type_name}
+use Rattle.parameter_heading.specs.Headings.{tail_count, heading}
 
 -- no byte of a value is a comma
-abbrev pub No-comma : List ℕ → Type 0
-No-comma value = AllByRecursion (λ b. b ≢ 44) value
+abbrev pub NoComma : List ℕ → Type 0
+NoComma value = AllByRecursion (λ b. b ≢ 44) value
 
 -- the line is the name, a comma and one value, of which P holds
 abbrev pub Gives : List ℕ → List ℕ → (List ℕ → Type 0) → Type 0
-Gives line name P = (value : List ℕ) × (line ≡ name ++ 44 ∷ value) × No-comma value × P value
+Gives line name P = (value : List ℕ) × (line ≡ name ++ 44 ∷ value) × NoComma value × P value
 
 -- a value spells a share of 1, so many ten-thousandths
-abbrev pub Spells-share : ℕ → List ℕ → Type 0
-Spells-share n value = Spells 4 (pos 0) (pos 10000) value (pos n)
+abbrev pub SpellsShare : ℕ → List ℕ → Type 0
+SpellsShare n value = Spells 4 (pos 0) (pos 10000) value (pos n)
 
 -- a value spells a factor from 0 to 1, so many ten-billionths
-abbrev pub Spells-factor : ℕ → List ℕ → Type 0
-Spells-factor n value = Spells 10 (pos 0) (pos 10000000000) value (pos n)
+abbrev pub SpellsFactor : ℕ → List ℕ → Type 0
+SpellsFactor n value = Spells 10 (pos 0) (pos 10000000000) value (pos n)
 
 -- the tail is the least number of scenarios that is no less than what the level leaves of them, and 1 to 100
 pub record Tail (level count tail : ℕ) : Type 0 where
@@ -36,12 +36,12 @@ pub record Tail (level count tail : ℕ) : Type 0 where
 
 -- the titles are two names and the numbers from 1 to n, none with a zero in front
 pub record Titles (line : List ℕ) (n : ℕ) (numbers : List (List ℕ)) : Type 0 where
-  pub text : line ≡ spliced 44 (instrument-id ∷ field-type ∷ numbers)
+  pub text : line ≡ spliced 44 (instrument_id_name ∷ field_type_name ∷ numbers)
   pub many : length numbers ≡ n
-  pub each : (i : ℕ) → i < n → Writes-stock (slice_index_or numbers i []) (i + 1)
+  pub each : (i : ℕ) → i < n → WritesStock (slice_index_or numbers i []) (i + 1)
 
 -- the first thirteen lines lay down this heading, and these are left after them
-pub record Lays-heading (ls : List (List ℕ)) (h : Heading) (rest : List (List ℕ)) : Type 0 where
+pub record LaysHeading (ls : List (List ℕ)) (h : Heading) (rest : List (List ℕ)) : Type 0 where
   pub l1 : List ℕ
   pub l2 : List ℕ
   pub l3 : List ℕ
@@ -56,31 +56,31 @@ pub record Lays-heading (ls : List (List ℕ)) (h : Heading) (rest : List (List 
   pub l12 : List ℕ
   pub l13 : List ℕ
   pub text : ls ≡ l1 ∷ l2 ∷ l3 ∷ l4 ∷ l5 ∷ l6 ∷ l7 ∷ l8 ∷ l9 ∷ l10 ∷ l11 ∷ l12 ∷ l13 ∷ rest
-  pub line-1 : Gives l1 valuation-date (λ v. Writes-date v h.date)
-  pub line-2 : Gives l2 historical-weight (Spells-share h.parameters.historical.weight.ten_thousandths)
-  pub line-3 : Gives l3 stress-weight (Spells-share h.parameters.stress.weight.ten_thousandths)
+  pub line_1 : Gives l1 valuation_date_name (λ v. WritesDate v h.date)
+  pub line_2 : Gives l2 historical_weight_name (SpellsShare h.parameters.historical.weight.ten_thousandths)
+  pub line_3 : Gives l3 stress_weight_name (SpellsShare h.parameters.stress.weight.ten_thousandths)
   pub whole : h.parameters.historical.weight.ten_thousandths + h.parameters.stress.weight.ten_thousandths ≡ 10000
-  pub line-4 : Gives l4 historical-count (λ v. Writes 1 4000 v h.parameters.historical.count)
-  pub line-5 : Gives l5 stress-count (λ v. Writes 1 4000 v h.parameters.stress.count)
-  pub line-6 : Gives l6 stv-count (λ v. (n : ℕ) × Writes 0 100000 v n)
-  pub line-7 : Gives l7 historical-level (Spells-share h.historical_level.ten_thousandths)
-  pub line-8 : Gives l8 stress-level (Spells-share h.stress_level.ten_thousandths)
-  pub historical-tail : Tail h.historical_level.ten_thousandths h.parameters.historical.count h.parameters.historical.tail
-  pub stress-tail : Tail h.stress_level.ten_thousandths h.parameters.stress.count h.parameters.stress.tail
-  pub line-9 : Gives l9 historical-measure (λ v. Writes 4 4 v 4)
-  pub line-10 : Gives l10 stress-measure (λ v. Writes 4 4 v 4)
-  pub line-11 : Gives l11 rounding (λ v. Writes 1 1000000 v h.parameters.step)
-  pub line-12 : Gives l12 holiday-factor (Spells-factor h.parameters.holiday_factor)
-  pub line-13 : (numbers : List (List ℕ)) × Titles l13 (max h.parameters.historical.count h.parameters.stress.count) numbers
+  pub line_4 : Gives l4 historical_count_name (λ v. Writes 1 4000 v h.parameters.historical.count)
+  pub line_5 : Gives l5 stress_count_name (λ v. Writes 1 4000 v h.parameters.stress.count)
+  pub line_6 : Gives l6 stv_count_name (λ v. (n : ℕ) × Writes 0 100000 v n)
+  pub line_7 : Gives l7 historical_level_name (SpellsShare h.historical_level.ten_thousandths)
+  pub line_8 : Gives l8 stress_level_name (SpellsShare h.stress_level.ten_thousandths)
+  pub historical_tail : Tail h.historical_level.ten_thousandths h.parameters.historical.count h.parameters.historical.tail
+  pub stress_tail : Tail h.stress_level.ten_thousandths h.parameters.stress.count h.parameters.stress.tail
+  pub line_9 : Gives l9 historical_measure_name (λ v. Writes 4 4 v 4)
+  pub line_10 : Gives l10 stress_measure_name (λ v. Writes 4 4 v 4)
+  pub line_11 : Gives l11 rounding (λ v. Writes 1 1000000 v h.parameters.step)
+  pub line_12 : Gives l12 holiday_factor_name (SpellsFactor h.parameters.holiday_factor)
+  pub line_13 : (numbers : List (List ℕ)) × Titles l13 (max h.parameters.historical.count h.parameters.stress.count) numbers
 
 -- A heading is found exactly where the lines lay it down.
-abbrev pub Headings-pass : Type 0
-Headings-pass = (ls rest : List (List ℕ)) (h : Heading) → (heading ls ≡ Ok (h, rest) → Lays-heading ls h rest) × (Lays-heading ls h rest → heading ls ≡ Ok (h, rest))
+abbrev pub HeadingsPass : Type 0
+HeadingsPass = (ls rest : List (List ℕ)) (h : Heading) → (heading ls ≡ Ok (h, rest) → LaysHeading ls h rest) × (LaysHeading ls h rest → heading ls ≡ Ok (h, rest))
 
 -- A level of 0.994 leaves 6 of 1,000 scenarios, and one of 0.98 leaves 21 of 1,018, not 20.
-abbrev pub Tail-figures : Type 0
-Tail-figures = (tail-count 9940 1000 ≡ 6) × (tail-count 9800 1018 ≡ 21)
+abbrev pub TailFigures : Type 0
+TailFigures = (tail_count 9940 1000 ≡ 6) × (tail_count 9800 1018 ≡ 21)
 
 -- what is known of a heading: its parameters are ones that a return source can have
 abbrev pub Sound : Heading → Type 0
-Sound h = Lawful-parameters h.parameters
+Sound h = LawfulParameters h.parameters

@@ -7,13 +7,13 @@ use Rattle.parameter_text.specs.Questions.{and_then}
 use Rattle.parameter_text.specs.Cuts.{cells}
 use Rattle.parameter_heading.specs.declared.terms.Fault.{Fault}
 
-abbrev pub fault-at : ℕ → Question → Fault
-fault-at k q = record { question = q; line = k }
+abbrev pub fault_at : ℕ → Question → Fault
+fault_at k q = record { question = q; line = k }
 
 -- a judgement of line k, whose question becomes the file's fault
-abbrev pub at-line : {X : Type 0} → ℕ → Result X Question → Result X Fault
-at-line k (Ok x) = Ok x
-at-line k (Err q) = Err (fault-at k q)
+abbrev pub at_line : {X : Type 0} → ℕ → Result X Question → Result X Fault
+at_line k (Ok x) = Ok x
+at_line k (Err q) = Err (fault_at k q)
 
 abbrev pub same_text : List ℕ → List ℕ → Bool
 same_text [] [] = true
@@ -37,6 +37,6 @@ abbrev pub Judgement : Type 0 → Type 0
 Judgement X = List ℕ → Result X Question
 
 -- line k, the first of those left: what it is worth by a judgement of its value, and the lines left after it
-abbrev pub valued-line : {X : Type 0} → ℕ → List ℕ → Judgement X → List (List ℕ) → Result (X × List (List ℕ)) Fault
-valued-line k name judge [] = Err (fault-at k Presence)
-valued-line k name judge (l ∷ ls) = at-line k (and_then (and_then (value_after name (cells l)) judge) (λ x. Ok (x, ls)))
+abbrev pub valued_line : {X : Type 0} → ℕ → List ℕ → Judgement X → List (List ℕ) → Result (X × List (List ℕ)) Fault
+valued_line k name judge [] = Err (fault_at k Presence)
+valued_line k name judge (l ∷ ls) = at_line k (and_then (and_then (value_after name (cells l)) judge) (λ x. Ok (x, ls)))

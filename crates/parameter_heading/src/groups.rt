@@ -1,6 +1,6 @@
 // The groups of lines that make up the heading, each taken from where the one before it ended.
 ghost use Rattle.parameter_heading.specs.Taking.{Takes};
-ghost use Rattle.parameter_heading.specs.Headings.{weights as weights-of, counts as counts_of, levels as levels-of, amounts as amounts-of};
+ghost use Rattle.parameter_heading.specs.Headings.{weights as weights_of, counts as counts_of, levels as levels_of, amounts as amounts_of};
 
 use super::named::next_reading;
 use super::readings::{Day, HistoricalWeight, HolidayFactor, StressWeight, TailLevel};
@@ -30,7 +30,7 @@ const STEP: IntegerRule = IntegerRule {
 
 // Lines 1 to 3: the date and the weights.
 pub(crate) fn weights(lines: &mut Lines<'_>) -> Result<Weights, Fault>
-    ensures { Takes weights-of lines.old result lines.new }
+    ensures { Takes weights_of lines.old result lines.new }
 {
     let date = next_reading(lines, 1, b"Valuation_DT", &Day)?;
     let historical = next_reading(lines, 2, b"HVaR_WGT", &HistoricalWeight)?;
@@ -58,7 +58,7 @@ pub(crate) fn levels(
     historical: u32,
     stress: u32,
 ) -> Result<(u32, u32), Fault>
-    ensures { Takes (levels-of historical stress) lines.old result lines.new }
+    ensures { Takes (levels_of historical stress) lines.old result lines.new }
 {
     let historical = next_reading(lines, 7, b"HVaR_CL", &TailLevel { count: historical })?;
     let stress = next_reading(lines, 8, b"SVaR_CL", &TailLevel { count: stress })?;
@@ -67,7 +67,7 @@ pub(crate) fn levels(
 
 // Lines 9 to 12: the measures, the rounding step and the holiday factor.
 pub(crate) fn amounts(lines: &mut Lines<'_>) -> Result<(u32, u64), Fault>
-    ensures { Takes amounts-of lines.old result lines.new }
+    ensures { Takes amounts_of lines.old result lines.new }
 {
     next_reading(lines, 9, b"HVaR_Measure", &MEASURE)?;
     next_reading(lines, 10, b"SVaR_Measure", &MEASURE)?;

@@ -4,10 +4,10 @@
 ghost use Rattle.std.specs.Prelude.{◌≡◌, ◌≤◌, length, IfOk};
 ghost use Rattle.parameter_text.specs.Questions.{seen_as};
 ghost use Rattle.parameter_text.specs.Cuts.{lines as lines_of};
-ghost use Rattle.parameter_text.specs.Left.{lines_left, text-left};
+ghost use Rattle.parameter_text.specs.Left.{lines_left, text_left};
 ghost use Rattle.parameter_heading.specs.Taking.{Takes};
-ghost use Rattle.parameter_heading.specs.Headings.{scenarios as scenarios-of, heading as heading-of};
-ghost use Rattle.parameter_heading.specs.Laid.{Headings-pass, Tail-figures, Sound};
+ghost use Rattle.parameter_heading.specs.Headings.{scenarios as scenarios_of, heading as heading_of};
+ghost use Rattle.parameter_heading.specs.Laid.{HeadingsPass, TailFigures, Sound};
 
 mod groups;
 mod named;
@@ -24,7 +24,7 @@ use titles::titles;
 
 // A set of scenarios, with the tail that its level leaves.
 fn scenarios(weight: u32, count: u32, level: u32) -> Scenarios
-    ensures { result ≡ scenarios-of weight count level }
+    ensures { result ≡ scenarios_of weight count level }
 {
     Scenarios {
         weight: Weight {
@@ -37,7 +37,7 @@ fn scenarios(weight: u32, count: u32, level: u32) -> Scenarios
 
 // What the first thirteen lines lay down.
 fn first_lines(lines: &mut Lines<'_>) -> Result<Heading, Fault>
-    ensures { Takes heading-of lines.old result lines.new }
+    ensures { Takes heading_of lines.old result lines.new }
 {
     let weights = weights(lines)?;
     let (historical, stress) = counts(lines)?;
@@ -63,9 +63,9 @@ fn first_lines(lines: &mut Lines<'_>) -> Result<Heading, Fault>
 
 // The heading of a text and the lines after it.
 fn laid_down(text: &[u8]) -> Result<(Heading, Lines<'_>), Fault>
-    ensures heading { seen_as (λ p. (p.0, lines_left p.1)) result ≡ heading-of (lines_of text.now) }
-    ensures rest { IfOk result (λ p. length (text-left p.1) ≤ length text.now) }
-    ensures law { Headings-pass }
+    ensures heading { seen_as (λ p. (p.0, lines_left p.1)) result ≡ heading_of (lines_of text.now) }
+    ensures rest { IfOk result (λ p. length (text_left p.1) ≤ length text.now) }
+    ensures law { HeadingsPass }
     ensures sound { IfOk result (λ p. Sound p.0) }
 {
     let mut lines = Lines::new(text);
@@ -75,10 +75,10 @@ fn laid_down(text: &[u8]) -> Result<(Heading, Lines<'_>), Fault>
 
 // The heading of a file and the text after it, or the first fault of its first thirteen lines.
 pub fn heading(text: &[u8]) -> Result<(Heading, &[u8]), Fault>
-    ensures heading { seen_as (λ p. (p.0, lines_of p.1.now)) result ≡ heading-of (lines_of text.now) }
+    ensures heading { seen_as (λ p. (p.0, lines_of p.1.now)) result ≡ heading_of (lines_of text.now) }
     ensures rest { IfOk result (λ p. length p.1.now ≤ length text.now) }
-    ensures law { Headings-pass }
-    ensures figures { Tail-figures }
+    ensures law { HeadingsPass }
+    ensures figures { TailFigures }
     ensures sound { IfOk result (λ p. Sound p.0) }
 {
     let (heading, lines) = laid_down(text)?;

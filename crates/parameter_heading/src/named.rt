@@ -1,9 +1,9 @@
 // A line of the heading: a name and a value.
 ghost use Rattle.std.specs.Prelude.{◌≡◌, Ok};
 ghost use Rattle.parameter_text.specs.Questions.{seen_as};
-ghost use Rattle.parameter_text.specs.Cuts.{cells as Cells-of};
+ghost use Rattle.parameter_text.specs.Cuts.{cells as cells_of};
 ghost use Rattle.parameter_text.specs.Left.{cells_left};
-ghost use Rattle.parameter_heading.specs.Lines.{at-line as judged-at, same_text, one_cell, value_after, valued-line};
+ghost use Rattle.parameter_heading.specs.Lines.{at_line as judged_at, same_text, one_cell, value_after, valued_line};
 ghost use Rattle.parameter_heading.specs.Taking.{Takes};
 
 use super::readings::Reading;
@@ -32,7 +32,7 @@ fn only_cell<'a>(cells: Cells<'a>) -> Result<&'a [u8], Question>
 
 // The value of a line that has this name.
 fn value_of<'a>(line: &'a [u8], name: &[u8]) -> Result<&'a [u8], Question>
-    ensures { seen_as (λ x. x.now) result ≡ value_after name.now (Cells-of line.now) }
+    ensures { seen_as (λ x. x.now) result ≡ value_after name.now (cells_of line.now) }
 {
     let mut cells = Cells::new(line);
     let Some(first) = cells.next_cell() else {
@@ -46,7 +46,7 @@ fn value_of<'a>(line: &'a [u8], name: &[u8]) -> Result<&'a [u8], Question>
 
 // A judgement of a line, whose question becomes the file's fault.
 fn at_line<T>(number: u32, judged: Result<T, Question>) -> Result<T, Fault>
-    ensures { result ≡ judged-at number judged }
+    ensures { result ≡ judged_at number judged }
 {
     match judged {
         Ok(x) => Ok(x),
@@ -59,7 +59,7 @@ fn at_line<T>(number: u32, judged: Result<T, Question>) -> Result<T, Fault>
 
 // The value of the next line, which has this number in the file and should have this name.
 fn next_value<'a>(lines: &mut Lines<'a>, number: u32, name: &[u8]) -> Result<&'a [u8], Fault>
-    ensures { Takes (valued-line number name.now Ok) lines.old (seen_as (λ x. x.now) result) lines.new }
+    ensures { Takes (valued_line number name.now Ok) lines.old (seen_as (λ x. x.now) result) lines.new }
 {
     match lines.next_line() {
         Some(line) => at_line(number, value_of(line, name)),
@@ -74,7 +74,7 @@ pub(crate) fn next_reading<R: Reading>(
     name: &[u8],
     reading: &R,
 ) -> Result<R::Value, Fault>
-    ensures { Takes (valued-line number name.now (R.judged reading.now)) lines.old result lines.new }
+    ensures { Takes (valued_line number name.now (R.judged reading.now)) lines.old result lines.new }
 {
     let value = next_value(lines, number, name)?;
     at_line(number, reading.read(value))

@@ -1,9 +1,9 @@
 // What the value of a line may be: a day, an integer, a weight, a level or a factor.
 ghost use Rattle.std.specs.Prelude.{◌≡◌, ◌-◌, ◌*◌, ◌≤◌};
-ghost use Rattle.parameter_text.specs.Dates.{date-cell};
+ghost use Rattle.parameter_text.specs.Dates.{date_cell};
 ghost use Rattle.parameter_text.specs.Integers.{integer};
 ghost use Rattle.parameter_heading.specs.Lines.{Judgement};
-ghost use Rattle.parameter_heading.specs.Headings.{share_cell, rest-of-weight, other-weight, tail-count, with_tail, level-cell, factor-cell};
+ghost use Rattle.parameter_heading.specs.Headings.{share_cell, weight_left, other_weight, tail_count, with_tail, level_cell, factor_cell};
 
 use parameter_text::{Date, DecimalRule, IntegerRule, Places, Question, date};
 
@@ -44,7 +44,7 @@ pub(crate) struct Day;
 impl Reading for Day {
     type Value = Date;
 
-    ghost judged = { λ _. date-cell };
+    ghost judged = { λ _. date_cell };
 
     fn read(&self, cell: &[u8]) -> Result<Date, Question> {
         date(cell)
@@ -87,7 +87,7 @@ impl Reading for HistoricalWeight {
 
 // The stress weight, if it makes the whole. The sum is taken in 64 bits, where it cannot overflow.
 fn rest_of_weight(historical: u32, stress: u32) -> Result<u32, Question>
-    ensures { result ≡ rest-of-weight historical stress }
+    ensures { result ≡ weight_left historical stress }
 {
     if u64::from(historical) + u64::from(stress) == WHOLE {
         Ok(stress)
@@ -105,7 +105,7 @@ pub(crate) struct StressWeight {
 impl Reading for StressWeight {
     type Value = u32;
 
-    ghost judged = { λ s. other-weight s.historical };
+    ghost judged = { λ s. other_weight s.historical };
 
     fn read(&self, cell: &[u8]) -> Result<u32, Question> {
         let stress = share(cell)?;
@@ -123,7 +123,7 @@ fn beyond(level: u32, count: u32) -> u64
 
 // How many of the worst scenarios make up the tail: what the level leaves of them, rounded up.
 pub(crate) fn tail(level: u32, count: u32) -> u32
-    ensures { result ≡ tail-count level count }
+    ensures { result ≡ tail_count level count }
 {
     ((beyond(level, count) + (WHOLE - 1)) / WHOLE) as u32
 }
@@ -149,7 +149,7 @@ pub(crate) struct TailLevel {
 impl Reading for TailLevel {
     type Value = u32;
 
-    ghost judged = { λ s. level-cell s.count };
+    ghost judged = { λ s. level_cell s.count };
 
     fn read(&self, cell: &[u8]) -> Result<u32, Question> {
         let level = share(cell)?;
@@ -164,7 +164,7 @@ pub(crate) struct HolidayFactor;
 impl Reading for HolidayFactor {
     type Value = u64;
 
-    ghost judged = { λ _. factor-cell };
+    ghost judged = { λ _. factor_cell };
 
     fn read(&self, cell: &[u8]) -> Result<u64, Question> {
         match FACTOR.value(cell) {

@@ -1,9 +1,9 @@
 // The titles of the columns: two names, and the numbers of the scenarios.
 ghost use Rattle.std.specs.Prelude.{◌≡◌, ◌≤◌, length, Ok, Err, MatchResult};
-ghost use Rattle.parameter_text.specs.Cuts.{cells as Cells-of};
-ghost use Rattle.parameter_text.specs.Integers.{stock-cell};
-ghost use Rattle.parameter_text.specs.Left.{cells_left, lines_left, text-left};
-ghost use Rattle.parameter_heading.specs.Headings.{counts-as, numbered, titled, titles as titles-of};
+ghost use Rattle.parameter_text.specs.Cuts.{cells as cells_of};
+ghost use Rattle.parameter_text.specs.Integers.{stock_cell};
+ghost use Rattle.parameter_text.specs.Left.{cells_left, lines_left, text_left};
+ghost use Rattle.parameter_heading.specs.Headings.{counts_as, numbered, titled, titles as titles_of};
 
 use super::named::is_same;
 use super::terms::Fault;
@@ -14,7 +14,7 @@ const TITLES: u32 = 13;
 
 // Does a cell write this number without a zero in front?
 fn is_number(cell: &[u8], k: u32) -> bool
-    ensures { result ≡ counts-as k (stock-cell cell.now) }
+    ensures { result ≡ counts_as k (stock_cell cell.now) }
 {
     match stock(cell) {
         Ok(n) => n == k,
@@ -42,7 +42,7 @@ fn are_numbered(cells: Cells<'_>, count: u32) -> bool
 }
 
 fn is_titled(line: &[u8], count: u32) -> bool
-    ensures { result ≡ titled count (Cells-of line.now) }
+    ensures { result ≡ titled count (cells_of line.now) }
 {
     let mut cells = Cells::new(line);
     let Some(first) = cells.next_cell() else {
@@ -56,7 +56,7 @@ fn is_titled(line: &[u8], count: u32) -> bool
 
 // Line 13: the titles, with so many numbers.
 pub(crate) fn titles(lines: &mut Lines<'_>, count: u32) -> Result<(), Fault>
-    ensures { MatchResult result (λ _. (titles-of count (lines_left lines.old) ≡ Ok (lines_left lines.new)) × (length (text-left lines.new) ≤ length (text-left lines.old))) (λ f. titles-of count (lines_left lines.old) ≡ Err f) }
+    ensures { MatchResult result (λ _. (titles_of count (lines_left lines.old) ≡ Ok (lines_left lines.new)) × (length (text_left lines.new) ≤ length (text_left lines.old))) (λ f. titles_of count (lines_left lines.old) ≡ Err f) }
 {
     let Some(line) = lines.next_line() else {
         return Err(Fault {

@@ -8,9 +8,9 @@ use Rattle.std.specs.List.{AllByRecursion as All}
 use Rattle.std.proofs.lemmas.List.{take_more, get_or-drop, take_all, drop_all, length-take-le, length-drop, drop_more}
 use Rattle.std.proofs.ByRecursion.{All-push}
 use Rattle.parameter_text.specs.Digits.{Digit, number}
-use Rattle.parameter_text.specs.Decimals.{signed, sign_text, point-text}
-use Rattle.parameter_text.proofs.DigitSteps.{room-step, small-whole}
-use Rattle.parameter_rows.specs.Returns.{largest-return, Spells-return}
+use Rattle.parameter_text.specs.Decimals.{signed, sign_text, point_text}
+use Rattle.parameter_text.proofs.DigitSteps.{room_step, small_whole}
+use Rattle.parameter_rows.specs.Returns.{largest_return, SpellsReturn}
 use Rattle.parameter_rows.specs.Reading.{Digits, Sized}
 
 pub byte_at : (xs : List ℕ) (at b : ℕ) → at < length xs → get_or xs at 0 ≡ b → drop at xs ≡ b ∷ drop (at + 1) xs
@@ -30,65 +30,65 @@ digits_more xs at whole n k h l a b d =
       few = omega arith;
       all = subst (All Digit) (sym m) (All-push Digit (take k (drop at xs)) _ d.all (a, b));
       value = ap (λ x. x * 10 + (get_or xs (at + k) 0 - 48)) d.value ∙ sym (number_push whole (take k (drop at xs)) _) ∙ ap (number whole) (sym m);
-      small = rw less (room-step n (8 - k) (get_or xs (at + k) 0 - 48) (omega arith) (omega arith) d.small);
+      small = rw less (room_step n (8 - k) (get_or xs (at + k) 0 - 48) (omega arith) (omega arith) d.small);
     }
 
 -- one digit more keeps the number small
-pub digits-small : (n k b : ℕ) → k < 8 → b ≤ 57 → (n + 1) * 10 ^ (8 - k) ≤ 1000000000 → n * 10 + (b - 48) < 1000000000
-digits-small n k b l h s = small-whole _ _ (room-step n (8 - k) (b - 48) (omega arith) (omega arith) s)
+pub digits_small : (n k b : ℕ) → k < 8 → b ≤ 57 → (n + 1) * 10 ^ (8 - k) ≤ 1000000000 → n * 10 + (b - 48) < 1000000000
+digits_small n k b l h s = small_whole _ _ (room_step n (8 - k) (b - 48) (omega arith) (omega arith) s)
 
-pub digits-none : (text : List ℕ) (whole : ℕ) → whole ≤ 9 → Digits text whole whole 0
-digits-none text whole h = record { few = omega arith; all = tt; value = refl; small = omega arith }
+pub digits_none : (text : List ℕ) (whole : ℕ) → whole ≤ 9 → Digits text whole whole 0
+digits_none text whole h = record { few = omega arith; all = tt; value = refl; small = omega arith }
 
 -- the table of units
-pub units-at : (k : ℕ) → k ≤ 8 → get_or (100000000 ∷ 10000000 ∷ 1000000 ∷ 100000 ∷ 10000 ∷ 1000 ∷ 100 ∷ 10 ∷ 1 ∷ []) k 0 ≡ 10 ^ (8 - k)
-units-at zero h = refl
-units-at (suc zero) h = refl
-units-at (suc (suc zero)) h = refl
-units-at (suc (suc (suc zero))) h = refl
-units-at (suc (suc (suc (suc zero)))) h = refl
-units-at (suc (suc (suc (suc (suc zero))))) h = refl
-units-at (suc (suc (suc (suc (suc (suc zero)))))) h = refl
-units-at (suc (suc (suc (suc (suc (suc (suc zero))))))) h = refl
-units-at (suc (suc (suc (suc (suc (suc (suc (suc zero)))))))) h = refl
-units-at (suc (suc (suc (suc (suc (suc (suc (suc (suc k))))))))) h = absurd (omega arith)
+pub units_at : (k : ℕ) → k ≤ 8 → get_or (100000000 ∷ 10000000 ∷ 1000000 ∷ 100000 ∷ 10000 ∷ 1000 ∷ 100 ∷ 10 ∷ 1 ∷ []) k 0 ≡ 10 ^ (8 - k)
+units_at zero h = refl
+units_at (suc zero) h = refl
+units_at (suc (suc zero)) h = refl
+units_at (suc (suc (suc zero))) h = refl
+units_at (suc (suc (suc (suc zero)))) h = refl
+units_at (suc (suc (suc (suc (suc zero))))) h = refl
+units_at (suc (suc (suc (suc (suc (suc zero)))))) h = refl
+units_at (suc (suc (suc (suc (suc (suc (suc zero))))))) h = refl
+units_at (suc (suc (suc (suc (suc (suc (suc (suc zero)))))))) h = refl
+units_at (suc (suc (suc (suc (suc (suc (suc (suc (suc k))))))))) h = absurd (omega arith)
 
-number-on : (a : ℕ) (f : List ℕ) → number a f ≡ a * 10 ^ length f + number 0 f
-number-on a [] = omega arith
-number-on a (x ∷ f) =
+number_on : (a : ℕ) (f : List ℕ) → number a f ≡ a * 10 ^ length f + number 0 f
+number_on a [] = omega arith
+number_on a (x ∷ f) =
     let p = 10 ^ length f in
     let d = x - 48 in
     let ten : 10 ^ suc (length f) ≡ 10 * p = pow-succ' 10 (length f) in
-    let here : number (a * 10 + d) f ≡ (a * 10 + d) * p + number 0 f = number-on (a * 10 + d) f in
-    let there : number (0 * 10 + d) f ≡ (0 * 10 + d) * p + number 0 f = number-on (0 * 10 + d) f in
+    let here : number (a * 10 + d) f ≡ (a * 10 + d) * p + number 0 f = number_on (a * 10 + d) f in
+    let there : number (0 * 10 + d) f ≡ (0 * 10 + d) * p + number 0 f = number_on (0 * 10 + d) f in
     let zeros : 0 * 10 + d ≡ d = omega arith in
     let there2 : number (0 * 10 + d) f ≡ d * p + number 0 f = there ∙ ap (λ z. z * p + number 0 f) zeros in
     let wide : (a * 10 + d) * p ≡ a * (10 * p) + d * p = add-mul (a * 10) d p ∙ ap (λ z. z + d * p) (mul_assoc a 10 p) in
     let same : a * 10 ^ suc (length f) ≡ a * (10 * p) = ap (λ z. a * z) ten in
     omega (arith, here, there2, wide, same)
 
-scaled-eight : (a : ℕ) (f : List ℕ) → length f ≤ 8 → number a f * 10 ^ (8 - length f) ≡ a * 100000000 + number 0 (take 8 f) * 10 ^ (8 - length f)
-scaled-eight a f h =
+scaled_eight : (a : ℕ) (f : List ℕ) → length f ≤ 8 → number a f * 10 ^ (8 - length f) ≡ a * 100000000 + number 0 (take 8 f) * 10 ^ (8 - length f)
+scaled_eight a f h =
     let k = length f in
     let u = 10 ^ (8 - k) in
     let eight : k + (8 - k) ≡ 8 = omega arith in
     let whole : 10 ^ k * u ≡ 100000000 = sym (pow-add 10 k (8 - k)) ∙ ap (λ z. 10 ^ z) eight in
-    ap (λ z. z * u) (number-on a f) ∙ add-mul (a * 10 ^ k) (number 0 f) u ∙ ap (λ z. z + number 0 f * u) (mul_assoc a (10 ^ k) u ∙ ap (λ z. a * z) whole) ∙ ap (λ (z : List ℕ). a * 100000000 + number 0 z * u) (sym (take_all 8 f h))
+    ap (λ z. z * u) (number_on a f) ∙ add-mul (a * 10 ^ k) (number 0 f) u ∙ ap (λ z. z + number 0 f * u) (mul_assoc a (10 ^ k) u ∙ ap (λ z. a * z) whole) ∙ ap (λ (z : List ℕ). a * 100000000 + number 0 z * u) (sym (take_all 8 f h))
 
-point-some : (f : List ℕ) → 0 < length f → point-text f ≡ 46 ∷ f
-point-some [] h = absurd (omega arith)
-point-some (d ∷ f) h = refl
+point_some : (f : List ℕ) → 0 < length f → point_text f ≡ 46 ∷ f
+point_some [] h = absurd (omega arith)
+point_some (d ∷ f) h = refl
 
 -- a digit alone
-pub sized-one : (xs : List ℕ) (at : ℕ) → at < length xs → 48 ≤ get_or xs at 0 → get_or xs at 0 ≤ 57 → Sized (take (at + 1 - at) (drop at xs)) ((get_or xs at 0 - 48) * 100000000)
-sized-one xs at h a b =
+pub sized_one : (xs : List ℕ) (at : ℕ) → at < length xs → 48 ≤ get_or xs at 0 → get_or xs at 0 ≤ 57 → Sized (take (at + 1 - at) (drop at xs)) ((get_or xs at 0 - 48) * 100000000)
+sized_one xs at h a b =
     let one : at + 1 - at ≡ 1 = omega arith in (
       get_or xs at 0 ∷ [],
       [],
       record {
         parts = ap (λ n. take n (drop at xs)) one ∙ ap (take 1) (drop_more xs at 0 h);
-        whole-digits = ((a, b), tt);
-        fraction-digits = tt;
+        whole_digits = ((a, b), tt);
+        fraction_digits = tt;
         one = refl;
         eight = omega arith;
         value = omega arith;
@@ -96,8 +96,8 @@ sized-one xs at h a b =
     )
 
 -- a digit, a point and digits
-pub sized-more : (xs : List ℕ) (at n k : ℕ) → at + 2 + k ≤ length xs → 48 ≤ get_or xs at 0 → get_or xs at 0 ≤ 57 → get_or xs (at + 1) 0 ≡ 46 → 0 < k → Digits (drop (at + 2) xs) (get_or xs at 0 - 48) n k → Sized (take (at + 2 + k - at) (drop at xs)) (n * 10 ^ (8 - k))
-sized-more xs at n k h a b point some d =
+pub sized_more : (xs : List ℕ) (at n k : ℕ) → at + 2 + k ≤ length xs → 48 ≤ get_or xs at 0 → get_or xs at 0 ≤ 57 → get_or xs (at + 1) 0 ≡ 46 → 0 < k → Digits (drop (at + 2) xs) (get_or xs at 0 - 48) n k → Sized (take (at + 2 + k - at) (drop at xs)) (n * 10 ^ (8 - k))
+sized_more xs at n k h a b point some d =
     let x = get_or xs at 0 in
     let f = take k (drop (at + 2) xs) in
     let long : length f ≡ k = length-take-le k (drop (at + 2) xs) (omega (arith, length-drop (at + 2) xs)) in
@@ -108,26 +108,26 @@ sized-more xs at n k h a b point some d =
       x ∷ [],
       f,
       record {
-        parts = ap (λ m. take m (drop at xs)) two ∙ ap (take (suc (suc k))) there ∙ ap (λ (l : List ℕ). x ∷ l) (sym (point-some f (omega arith)));
-        whole-digits = ((a, b), tt);
-        fraction-digits = d.all;
+        parts = ap (λ m. take m (drop at xs)) two ∙ ap (take (suc (suc k))) there ∙ ap (λ (l : List ℕ). x ∷ l) (sym (point_some f (omega arith)));
+        whole_digits = ((a, b), tt);
+        fraction_digits = d.all;
         one = refl;
         eight = omega (arith, d.few);
-        value = ap (λ z. z * 10 ^ (8 - k)) d.value ∙ ap (λ z. number (x - 48) f * 10 ^ (8 - z)) (sym long) ∙ scaled-eight (x - 48) f (omega (arith, d.few)) ∙ ap (λ z. z * 100000000 + number 0 (take 8 f) * 10 ^ (8 - length f)) (sym zeros);
+        value = ap (λ z. z * 10 ^ (8 - k)) d.value ∙ ap (λ z. number (x - 48) f * 10 ^ (8 - z)) (sym long) ∙ scaled_eight (x - 48) f (omega (arith, d.few)) ∙ ap (λ z. z * 100000000 + number 0 (take 8 f) * 10 ^ (8 - length f)) (sym zeros);
       },
     )
 
 -- with its sign
 
-from-least : (m : Bool) (n : ℕ) → n ≤ largest-return → neg_ℤ (pos largest-return) ≤ℤ signed m n
-from-least true n h = omega (arith, ints)
-from-least false n h = omega (arith, ints)
+from_least : (m : Bool) (n : ℕ) → n ≤ largest_return → neg_ℤ (pos largest_return) ≤ℤ signed m n
+from_least true n h = omega (arith, ints)
+from_least false n h = omega (arith, ints)
 
-to-most : (m : Bool) (n : ℕ) → n ≤ largest-return → signed m n ≤ℤ pos largest-return
-to-most true n h = omega (arith, ints)
-to-most false n h = omega (arith, ints)
+to_most : (m : Bool) (n : ℕ) → n ≤ largest_return → signed m n ≤ℤ pos largest_return
+to_most true n h = omega (arith, ints)
+to_most false n h = omega (arith, ints)
 
-spelling : (m : Bool) (text bs : List ℕ) (n : ℕ) → n ≤ largest-return → bs ≡ sign_text m ++ text → Sized text n → Spells-return bs (signed m n)
+spelling : (m : Bool) (text bs : List ℕ) (n : ℕ) → n ≤ largest_return → bs ≡ sign_text m ++ text → Sized text n → SpellsReturn bs (signed m n)
 spelling m text bs n h e (w, f, u) =
     let none : drop 8 f ≡ [] = drop_all 8 f u.eight in (
       m,
@@ -135,25 +135,25 @@ spelling m text bs n h e (w, f, u) =
       f,
       record {
         text = e ∙ ap (λ (l : List ℕ). sign_text m ++ l) u.parts;
-        whole-digits = u.whole-digits;
-        fraction-digits = u.fraction-digits;
+        whole_digits = u.whole_digits;
+        fraction_digits = u.fraction_digits;
         one = omega (arith, u.one);
         four = omega (arith, u.one);
         ten = omega (arith, u.eight);
-        no-more-places = subst (All (λ d. d ≡ 48)) (sym none) tt;
+        no_more_places = subst (All (λ d. d ≡ 48)) (sym none) tt;
         value = ap (signed m) u.value;
-        at_least = from-least m n h;
-        at_most = to-most m n h;
+        at_least = from_least m n h;
+        at_most = to_most m n h;
       },
     )
 
 -- the sign is one byte, or none
-pub spells-signed : (xs : List ℕ) (from next n : ℕ) (m : Bool) → eqb (get_or xs from 0) 45 ≡ m → from + bool_byte m < next → from < length xs → n ≤ largest-return → Sized (take (next - (from + bool_byte m)) (drop (from + bool_byte m) xs)) n → Spells-return (take (next - from) (drop from xs)) (signed m n)
-spells-signed xs from next n true e l k h s =
+pub spells_signed : (xs : List ℕ) (from next n : ℕ) (m : Bool) → eqb (get_or xs from 0) 45 ≡ m → from + bool_byte m < next → from < length xs → n ≤ largest_return → Sized (take (next - (from + bool_byte m)) (drop (from + bool_byte m) xs)) n → SpellsReturn (take (next - from) (drop from xs)) (signed m n)
+spells_signed xs from next n true e l k h s =
     let more : next - from ≡ suc (next - (from + 1)) = omega arith in
     let there : drop from xs ≡ 45 ∷ drop (from + 1) xs = byte_at xs from 45 k (eqb-true _ 45 e) in
     spelling true (take (next - (from + 1)) (drop (from + 1) xs)) _ n h (ap (λ z. take z (drop from xs)) more ∙ ap (take (suc (next - (from + 1)))) there) s
-spells-signed xs from next n false e l k h s =
+spells_signed xs from next n false e l k h s =
     let none : from + 0 ≡ from = omega arith in
     spelling false (take (next - (from + 0)) (drop (from + 0) xs)) _ n h (rw none refl) s
 

@@ -2,9 +2,9 @@
 use Rattle.std.proofs.Common.{◌≡◌, ℕ, ◌+◌, ◌-◌, ◌<◌, ◌≤◌, List, [], ◌∷◌, ◌++◌, length, get_or, take, drop, set, replicate, ℤ, IfSome, Some, None, Ok, Option, sym, refl, ap, ◌∙◌, subst, inl, inr, arith}
 use Rattle.std.proofs.lemmas.List.{take-append-drop, drop-drop, drop_all, take_all, append_assoc, append-nil, take_more_set, length-set, replicate_more}
 use Rattle.parameter_text.specs.Cuts.{cells, spliced, line_of, after_line, Starts}
-use Rattle.parameter_rows.specs.Returns.{Spells-return, Spell-returns, Returns, returns-cells}
+use Rattle.parameter_rows.specs.Returns.{SpellsReturn, SpellReturns, Returns, returns_cells}
 use Rattle.parameter_rows.specs.Reading.{Ends}
-use Rattle.parameter_rows.proofs.ReturnLaws.{spell-count, returns-start}
+use Rattle.parameter_rows.proofs.ReturnLaws.{spell_count, returns_start}
 use Rattle.parameter_rows.proofs.UsualCells.{byte_at}
 
 -- cells with a comma after each
@@ -12,26 +12,26 @@ abbrev followed : List (List ℕ) → List ℕ
 followed [] = []
 followed (c ∷ cs) = c ++ 44 ∷ followed cs
 
-followed-push : (cs : List (List ℕ)) (c : List ℕ) → followed (cs ++ c ∷ []) ≡ followed cs ++ (c ++ 44 ∷ [])
-followed-push [] c = refl
-followed-push (d ∷ cs) c = ap (λ (l : List ℕ). d ++ 44 ∷ l) (followed-push cs c) ∙ sym (append_assoc d (44 ∷ followed cs) (c ++ 44 ∷ []))
+followed_push : (cs : List (List ℕ)) (c : List ℕ) → followed (cs ++ c ∷ []) ≡ followed cs ++ (c ++ 44 ∷ [])
+followed_push [] c = refl
+followed_push (d ∷ cs) c = ap (λ (l : List ℕ). d ++ 44 ∷ l) (followed_push cs c) ∙ sym (append_assoc d (44 ∷ followed cs) (c ++ 44 ∷ []))
 
-spliced-push : (cs : List (List ℕ)) (c : List ℕ) → spliced 44 (cs ++ c ∷ []) ≡ followed cs ++ c
-spliced-push [] c = refl
-spliced-push (d ∷ []) c = sym (append_assoc d (44 ∷ []) c)
-spliced-push (d ∷ e ∷ cs) c = ap (λ (l : List ℕ). d ++ 44 ∷ l) (spliced-push (e ∷ cs) c) ∙ sym (append_assoc d (44 ∷ followed (e ∷ cs)) c)
+spliced_push : (cs : List (List ℕ)) (c : List ℕ) → spliced 44 (cs ++ c ∷ []) ≡ followed cs ++ c
+spliced_push [] c = refl
+spliced_push (d ∷ []) c = sym (append_assoc d (44 ∷ []) c)
+spliced_push (d ∷ e ∷ cs) c = ap (λ (l : List ℕ). d ++ 44 ∷ l) (spliced_push (e ∷ cs) c) ∙ sym (append_assoc d (44 ∷ followed (e ∷ cs)) c)
 
-spell-push : (cs : List (List ℕ)) (vs : List ℤ) (c : List ℕ) (v : ℤ) → Spell-returns cs vs → Spells-return c v → Spell-returns (cs ++ c ∷ []) (vs ++ v ∷ [])
-spell-push [] [] c v h s = (s, tt)
-spell-push [] (u ∷ vs) c v h s = absurd h
-spell-push (d ∷ cs) [] c v h s = absurd h
-spell-push (d ∷ cs) (u ∷ vs) c v h s = (h.0, spell-push cs vs c v h.1 s)
+spell_push : (cs : List (List ℕ)) (vs : List ℤ) (c : List ℕ) (v : ℤ) → SpellReturns cs vs → SpellsReturn c v → SpellReturns (cs ++ c ∷ []) (vs ++ v ∷ [])
+spell_push [] [] c v h s = (s, tt)
+spell_push [] (u ∷ vs) c v h s = absurd h
+spell_push (d ∷ cs) [] c v h s = absurd h
+spell_push (d ∷ cs) (u ∷ vs) c v h s = (h.0, spell_push cs vs c v h.1 s)
 
 -- the front of the text up to a place spells these returns, a comma after each
-abbrev pub Read-to : List ℕ → ℕ → List ℤ → Type 0
-Read-to xs at vs = (cs : List (List ℕ)) × Spell-returns cs vs × (xs ≡ followed cs ++ drop at xs)
+abbrev pub ReadTo : List ℕ → ℕ → List ℤ → Type 0
+ReadTo xs at vs = (cs : List (List ℕ)) × SpellReturns cs vs × (xs ≡ followed cs ++ drop at xs)
 
-pub read_none : (xs : List ℕ) → Read-to xs 0 []
+pub read_none : (xs : List ℕ) → ReadTo xs 0 []
 read_none xs = ([], tt, refl)
 
 cut : (xs : List ℕ) (at next : ℕ) → at ≤ next → drop at xs ≡ take (next - at) (drop at xs) ++ drop next xs
@@ -39,17 +39,17 @@ cut xs at next h =
     let sum : at + (next - at) ≡ next = omega arith in
     sym (take-append-drop (next - at) (drop at xs)) ∙ ap (λ (l : List ℕ). take (next - at) (drop at xs) ++ l) (drop-drop (next - at) at xs ∙ ap (λ z. drop z xs) sum)
 
-module _ (xs : List ℕ) (at next : ℕ) (row : List ℤ) (i : ℕ) (v : ℤ) (in' : i < length row) (on : at ≤ next) (s : Spells-return (take (next - at) (drop at xs)) v) where
-  pub read_more : next < length xs → get_or xs next 0 ≡ 44 → Read-to xs at (take i row) → Read-to xs (next + 1) (take (i + 1) (set row i v))
+module _ (xs : List ℕ) (at next : ℕ) (row : List ℤ) (i : ℕ) (v : ℤ) (in' : i < length row) (on : at ≤ next) (s : SpellsReturn (take (next - at) (drop at xs)) v) where
+  pub read_more : next < length xs → get_or xs next 0 ≡ 44 → ReadTo xs at (take i row) → ReadTo xs (next + 1) (take (i + 1) (set row i v))
   read_more h e (cs, all, text) =
       let c = take (next - at) (drop at xs) in (
         cs ++ c ∷ [],
-        subst (Spell-returns (cs ++ c ∷ [])) (sym (take_more_set row i v in')) (spell-push cs (take i row) c v all s),
+        subst (SpellReturns (cs ++ c ∷ [])) (sym (take_more_set row i v in')) (spell_push cs (take i row) c v all s),
         text
             ∙ ap (λ (l : List ℕ). followed cs ++ l) (cut xs at next on ∙ ap (λ (l : List ℕ). c ++ l) (byte_at xs next 44 h e))
             ∙ ap (λ (l : List ℕ). followed cs ++ l) (sym (append_assoc c (44 ∷ []) (drop (next + 1) xs)))
             ∙ sym (append_assoc (followed cs) (c ++ 44 ∷ []) (drop (next + 1) xs))
-            ∙ ap (λ (l : List ℕ). l ++ drop (next + 1) xs) (sym (followed-push cs c)),
+            ∙ ap (λ (l : List ℕ). l ++ drop (next + 1) xs) (sym (followed_push cs c)),
       )
 
 before : (p text line rest : List ℕ) → Starts text line rest → Starts (p ++ text) (p ++ line) rest
@@ -58,31 +58,31 @@ before p text line rest (inr (inl e)) = inr (inl (ap (λ (l : List ℕ). p ++ l)
 before p text line rest (inr (inr e)) = inr (inr (ap (λ (l : List ℕ). p ++ l) e.0, e.1))
 
 -- the last cell and the line's end: the line is a row of returns
-pub read_all : (xs : List ℕ) (at next : ℕ) (row : List ℤ) (i n : ℕ) (v : ℤ) (rest : List ℕ) → i + 1 ≡ n → length row ≡ n → at ≤ next → Spells-return (take (next - at) (drop at xs)) v → Read-to xs at (take i row) → Ends (drop next xs) rest → (returns-cells n (cells (line_of xs)) ≡ Ok (set row i v)) × (rest ≡ after_line xs)
+pub read_all : (xs : List ℕ) (at next : ℕ) (row : List ℤ) (i n : ℕ) (v : ℤ) (rest : List ℕ) → i + 1 ≡ n → length row ≡ n → at ≤ next → SpellsReturn (take (next - at) (drop at xs)) v → ReadTo xs at (take i row) → Ends (drop next xs) rest → (returns_cells n (cells (line_of xs)) ≡ Ok (set row i v)) × (rest ≡ after_line xs)
 read_all xs at next row i n v rest last size on s (cs, all, text) (k, ends) =
     let c = take (next - at) (drop at xs) in
     let vs = set row i v in
     let same : length vs ≡ length row = length-set row i v in
     let whole : vs ≡ take i row ++ v ∷ [] = sym (take_all (i + 1) vs (omega arith)) ∙ take_more_set row i v (omega arith) in
-    let every : Spell-returns (cs ++ c ∷ []) vs = subst (Spell-returns (cs ++ c ∷ [])) (sym whole) (spell-push cs _ c v all s) in
+    let every : SpellReturns (cs ++ c ∷ []) vs = subst (SpellReturns (cs ++ c ∷ [])) (sym whole) (spell_push cs _ c v all s) in
     let line = (followed cs ++ c) ++ replicate k 44 in
     let r : Returns n line vs =
-    (cs ++ c ∷ [], k, spell-count (cs ++ c ∷ []) vs every ∙ same ∙ size, ap (λ (l : List ℕ). l ++ replicate k 44) (sym (spliced-push cs c)), every) in
+    (cs ++ c ∷ [], k, spell_count (cs ++ c ∷ []) vs every ∙ same ∙ size, ap (λ (l : List ℕ). l ++ replicate k 44) (sym (spliced_push cs c)), every) in
     let t : xs ≡ (followed cs ++ c) ++ drop next xs =
     text ∙ ap (λ (l : List ℕ). followed cs ++ l) (cut xs at next on) ∙ sym (append_assoc (followed cs) c (drop next xs)) in
     let starts : Starts xs line rest =
     subst (λ (l : List ℕ). Starts l line rest) (sym t) (before (followed cs ++ c) (drop next xs) (replicate k 44) rest ends) in
-    let done = returns-start n xs line rest vs (omega arith) r starts in
+    let done = returns_start n xs line rest vs (omega arith) r starts in
     (done.0, sym done.1)
 
 -- what a Some has is changed, and None says nothing
-pub some-map : {X : Type 0} (o : Option X) (P Q : X → Type 0) → ((x : X) → P x → Q x) → IfSome o P → IfSome o Q
-some-map None P Q f h = tt
-some-map (Some x) P Q f h = f x h
+pub some_map : {X : Type 0} (o : Option X) (P Q : X → Type 0) → ((x : X) → P x → Q x) → IfSome o P → IfSome o Q
+some_map None P Q f h = tt
+some_map (Some x) P Q f h = f x h
 
-pub some-both : {X : Type 0} (o : Option X) (P Q R : X → Type 0) → ((x : X) → P x → Q x → R x) → IfSome o P → IfSome o Q → IfSome o R
-some-both None P Q R f h k = tt
-some-both (Some x) P Q R f h k = f x h k
+pub some_both : {X : Type 0} (o : Option X) (P Q R : X → Type 0) → ((x : X) → P x → Q x → R x) → IfSome o P → IfSome o Q → IfSome o R
+some_both None P Q R f h k = tt
+some_both (Some x) P Q R f h k = f x h k
 
 -- commas, and then the line's end
 abbrev pub Commas : List ℕ → ℕ → ℕ → Type 0
@@ -92,25 +92,25 @@ module _ (xs : List ℕ) (from at : ℕ) (c : Commas xs from at) where
   onward : (l : List ℕ) → drop at xs ≡ l → drop from xs ≡ replicate (at - from) 44 ++ l
   onward l e = c.2 ∙ ap (λ (z : List ℕ). replicate (at - from) 44 ++ z) e
 
-  pub commas-more : at < length xs → get_or xs at 0 ≡ 44 → Commas xs from (at + 1)
-  commas-more h e =
+  pub commas_more : at < length xs → get_or xs at 0 ≡ 44 → Commas xs from (at + 1)
+  commas_more h e =
       let rest = drop (at + 1) xs in
       let on : at - from + 1 ≡ at + 1 - from = omega arith in
       let one : ◌≡◌ {A = List ℕ} (replicate (at - from) 44 ++ 44 ∷ []) (replicate (at + 1 - from) 44) = replicate_more (at - from) 44 ∙ ap (λ z. replicate z 44) on in
       (omega arith, omega arith, onward (44 ∷ rest) (byte_at xs at 44 h e) ∙ sym (append_assoc (replicate (at - from) 44) (44 ∷ []) rest) ∙ ap (λ (l : List ℕ). l ++ rest) one)
 
-  pub ends-lf : at < length xs → get_or xs at 0 ≡ 10 → Ends (drop from xs) (drop (at + 1) xs)
-  ends-lf h e = (at - from, inl (onward _ (byte_at xs at 10 h e)))
+  pub ends_lf : at < length xs → get_or xs at 0 ≡ 10 → Ends (drop from xs) (drop (at + 1) xs)
+  ends_lf h e = (at - from, inl (onward _ (byte_at xs at 10 h e)))
 
-  pub ends-cr : at + 1 < length xs → get_or xs at 0 ≡ 13 → get_or xs (at + 1) 0 ≡ 10 → Ends (drop from xs) (drop (at + 2) xs)
-  ends-cr h e f =
+  pub ends_cr : at + 1 < length xs → get_or xs at 0 ≡ 13 → get_or xs (at + 1) 0 ≡ 10 → Ends (drop from xs) (drop (at + 2) xs)
+  ends_cr h e f =
       let two : at + 1 + 1 ≡ at + 2 = omega arith in
       (at - from, inr (inl (onward _ (byte_at xs at 13 (omega arith) e ∙ ap (λ (l : List ℕ). 13 ∷ l) (byte_at xs (at + 1) 10 h f ∙ ap (λ z. 10 ∷ drop z xs) two)))))
 
-  pub ends-text : length xs ≤ at → Ends (drop from xs) (drop at xs)
-  ends-text h =
+  pub ends_text : length xs ≤ at → Ends (drop from xs) (drop at xs)
+  ends_text h =
       let none : drop at xs ≡ [] = drop_all at xs h in
       (at - from, inr (inr (onward [] none ∙ append-nil (replicate (at - from) 44), none)))
 
-pub commas-none : (xs : List ℕ) (from : ℕ) → from ≤ length xs → Commas xs from from
-commas-none xs from h = let z : from - from ≡ 0 = omega arith in (omega arith, h, rw z refl)
+pub commas_none : (xs : List ℕ) (from : ℕ) → from ≤ length xs → Commas xs from from
+commas_none xs from h = let z : from - from ≡ 0 = omega arith in (omega arith, h, rw z refl)

@@ -5,9 +5,9 @@ use Rattle.parameter_text.specs.Questions.{sooner}
 use Rattle.parameter_rows.specs.Returns.{verdict}
 
 -- the first of the question that failed so far, if any, and one more
-abbrev pub sooner-failed : Option Question → Question → Question
-sooner-failed None q = q
-sooner-failed (Some p) q = sooner p q
+abbrev pub sooner_failed : Option Question → Question → Question
+sooner_failed None q = q
+sooner_failed (Some p) q = sooner p q
 
 -- the returns so far, or the first question that failed
 abbrev pub outcome : Option Question → List ℤ → Result (List ℤ) Question

@@ -2,7 +2,7 @@
 use Rattle.std.specs.Prelude.{◌≡◌, ℕ, ◌+◌, ◌-◌, ◌*◌, ◌^◌, ◌≤◌, List, ◌++◌, length, take, replicate}
 use Rattle.std.specs.List.{AllByRecursion}
 use Rattle.parameter_text.specs.Digits.{Digit, number}
-use Rattle.parameter_text.specs.Decimals.{scaled, point-text}
+use Rattle.parameter_text.specs.Decimals.{scaled, point_text}
 use Rattle.parameter_text.specs.Cuts.{Starts}
 
 -- k digits in front, at most eight, and the number n that they write on from one digit
@@ -14,9 +14,9 @@ pub record Digits (text : List ℕ) (whole n k : ℕ) : Type 0 where
 
 -- one digit, and perhaps a point and one to eight digits: the size n, in hundred-millionths
 pub record Unsigned (text : List ℕ) (n : ℕ) (whole fraction : List ℕ) : Type 0 where
-  pub parts : text ≡ whole ++ point-text fraction
-  pub whole-digits : AllByRecursion Digit whole
-  pub fraction-digits : AllByRecursion Digit fraction
+  pub parts : text ≡ whole ++ point_text fraction
+  pub whole_digits : AllByRecursion Digit whole
+  pub fraction_digits : AllByRecursion Digit fraction
   pub one : length whole ≡ 1
   pub eight : length fraction ≤ 8
   pub value : n ≡ scaled 8 whole fraction

@@ -4,48 +4,48 @@ use Rattle.std.specs.Prelude.{◌≡◌, ℕ, ◌≤◌, cond, ◌&&◌, List, [
 use Rattle.parameter_text.specs.declared.terms.Question.{Question}
 use Rattle.parameter_text.specs.declared.terms.Question.TheVariants.{Cells}
 use Rattle.parameter_text.specs.Questions.{both}
-use Rattle.parameter_text.specs.Cuts.{cells, spliced, all-empty}
+use Rattle.parameter_text.specs.Cuts.{cells, spliced, all_empty}
 use Rattle.parameter_text.specs.Decimals.{decimal, Spells}
 
 -- the largest return, in hundred-millionths: 4
-abbrev pub largest-return : ℕ
-largest-return = 400000000
+abbrev pub largest_return : ℕ
+largest_return = 400000000
 
 -- The relation: this line writes these returns.
 
 -- these bytes spell the return v, in hundred-millionths, from -4 to 4
-abbrev pub Spells-return : List ℕ → ℤ → Type 0
-Spells-return bs v = Spells 8 (neg_ℤ (pos largest-return)) (pos largest-return) bs v
+abbrev pub SpellsReturn : List ℕ → ℤ → Type 0
+SpellsReturn bs v = Spells 8 (neg_ℤ (pos largest_return)) (pos largest_return) bs v
 
 -- each cell spells its return
-abbrev pub Spell-returns : List (List ℕ) → List ℤ → Type 0
-Spell-returns [] [] = Unit {0}
-Spell-returns [] (v ∷ vs) = ⊥
-Spell-returns (c ∷ cs) [] = ⊥
-Spell-returns (c ∷ cs) (v ∷ vs) = Spells-return c v × Spell-returns cs vs
+abbrev pub SpellReturns : List (List ℕ) → List ℤ → Type 0
+SpellReturns [] [] = Unit {0}
+SpellReturns [] (v ∷ vs) = ⊥
+SpellReturns (c ∷ cs) [] = ⊥
+SpellReturns (c ∷ cs) (v ∷ vs) = SpellsReturn c v × SpellReturns cs vs
 
 -- n cells with a comma between two, and then commas alone
 abbrev pub Returns : ℕ → List ℕ → List ℤ → Type 0
-Returns n line vs = (needed : List (List ℕ)) × (spare : ℕ) × (length needed ≡ n) × (line ≡ spliced 44 needed ++ replicate spare 44) × Spell-returns needed vs
+Returns n line vs = (needed : List (List ℕ)) × (spare : ℕ) × (length needed ≡ n) × (line ≡ spliced 44 needed ++ replicate spare 44) × SpellReturns needed vs
 
 -- The judgement: the returns, or the first question that the line fails.
 
 -- a return, in hundred-millionths, from -4 to 4
-abbrev pub return-cell : List ℕ → Result ℤ Question
-return-cell bs = decimal 8 (neg_ℤ (pos largest-return)) (pos largest-return) bs
+abbrev pub return_cell : List ℕ → Result ℤ Question
+return_cell bs = decimal 8 (neg_ℤ (pos largest_return)) (pos largest_return) bs
 
 -- the returns of cells, or the first question that any of them fails: all forms are asked before any range
 abbrev pub verdict : List (List ℕ) → Result (List ℤ) Question
 verdict [] = Ok []
-verdict (c ∷ cs) = both (λ v vs. v ∷ vs) (return-cell c) (verdict cs)
+verdict (c ∷ cs) = both (λ v vs. v ∷ vs) (return_cell c) (verdict cs)
 
 -- n cells are needed, and empty ones may follow
-abbrev pub returns-cells : ℕ → List (List ℕ) → Result (List ℤ) Question
-returns-cells n cs = cond (nat_le n (length cs) && all-empty (drop n cs)) (verdict (take n cs)) (Err Cells)
+abbrev pub returns_cells : ℕ → List (List ℕ) → Result (List ℤ) Question
+returns_cells n cs = cond (nat_le n (length cs) && all_empty (drop n cs)) (verdict (take n cs)) (Err Cells)
 
 -- A line passes exactly where it writes n returns, with those returns.
-abbrev pub Returns-pass : Type 0
-Returns-pass = (n : ℕ) (line : List ℕ) (vs : List ℤ) → 1 ≤ n → (returns-cells n (cells line) ≡ Ok vs → Returns n line vs) × (Returns n line vs → returns-cells n (cells line) ≡ Ok vs)
+abbrev pub ReturnsPass : Type 0
+ReturnsPass = (n : ℕ) (line : List ℕ) (vs : List ℤ) → 1 ≤ n → (returns_cells n (cells line) ≡ Ok vs → Returns n line vs) × (Returns n line vs → returns_cells n (cells line) ≡ Ok vs)
 
 -- an answer and a row say together what was judged: it passes with the row's values, or fails the answer's question
 abbrev pub Agrees : {X : Type 0} → Result (List ℤ) Question → Result X Question → List ℤ → Type 0

@@ -1,9 +1,9 @@
 // Rows of returns in any spelling, judged question by question: what decides where the usual spelling is not found.
 ghost use Rattle.std.specs.Prelude.{◌≡◌, ℕ, ◌<◌, ◌≤◌, length, drop, IfOk, MatchOption};
-ghost use Rattle.parameter_text.specs.Cuts.{cells as Cells-of, line_of, after_line};
+ghost use Rattle.parameter_text.specs.Cuts.{cells as cells_of, line_of, after_line};
 ghost use Rattle.parameter_text.specs.Left.{cells_left};
-ghost use Rattle.parameter_rows.specs.Returns.{return-cell, returns-cells, Returns-pass, Agrees};
-ghost use Rattle.parameter_rows.specs.Asking.{sooner-failed, Needed};
+ghost use Rattle.parameter_rows.specs.Returns.{return_cell, returns_cells, ReturnsPass, Agrees};
+ghost use Rattle.parameter_rows.specs.Asking.{sooner_failed, Needed};
 
 use super::LARGEST_RETURN;
 use parameter_text::{Cells, DecimalRule, Places, Question, front_line};
@@ -17,7 +17,7 @@ const RETURN: DecimalRule = DecimalRule {
 
 // The return that a cell spells, or the question that the cell fails.
 fn return_value(cell: &[u8]) -> Result<i32, Question>
-    ensures { result ≡ return-cell cell.now }
+    ensures { result ≡ return_cell cell.now }
 {
     let v = RETURN.value(cell)?;
     Ok(v as i32)
@@ -25,7 +25,7 @@ fn return_value(cell: &[u8]) -> Result<i32, Question>
 
 // The first of the question that failed so far, if any, and of one more.
 fn first_failed(failed: Option<Question>, q: Question) -> Question
-    ensures { result ≡ sooner-failed failed q }
+    ensures { result ≡ sooner_failed failed q }
 {
     match failed {
         None => q,
@@ -51,7 +51,7 @@ fn needed(cells: &mut Cells<'_>, row: &mut [i32]) -> Option<Option<Question>>
 
 // Judges a line as a row of returns. The cells are counted before any is asked for its form.
 fn judged_line(line: &[u8], row: &mut [i32]) -> Result<(), Question>
-    ensures { Agrees (returns-cells (length row.old) (Cells-of line.now)) result row.new }
+    ensures { Agrees (returns_cells (length row.old) (cells_of line.now)) result row.new }
 {
     let mut cells = Cells::new(line);
     let Some(failed) = needed(&mut cells, row) else {
@@ -68,9 +68,9 @@ fn judged_line(line: &[u8], row: &mut [i32]) -> Result<(), Question>
 
 // A row of returns from the front of `text`: where the next line starts, or the first question that the line fails.
 pub(crate) fn judged_row(text: &[u8], row: &mut [i32]) -> Result<usize, Question>
-    ensures judged { (n : ℕ) → n ≡ length row.old → Agrees (returns-cells n (Cells-of (line_of text.now))) result row.new }
+    ensures judged { (n : ℕ) → n ≡ length row.old → Agrees (returns_cells n (cells_of (line_of text.now))) result row.new }
     ensures next { IfOk result (λ next. (drop next text.now ≡ after_line text.now) × (next ≤ length text.now)) }
-    ensures law { Returns-pass }
+    ensures law { ReturnsPass }
 {
     let (line, next) = front_line(text);
     judged_line(line, row)?;

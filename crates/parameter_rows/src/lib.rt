@@ -6,7 +6,7 @@ mod usual;
 
 ghost use Rattle.std.specs.Prelude.{◌≡◌, ◌≤◌, length, drop, IfOk};
 ghost use Rattle.parameter_text.specs.Cuts.{cells, line_of, after_line};
-ghost use Rattle.parameter_rows.specs.Returns.{returns-cells, Returns-pass, Agrees};
+ghost use Rattle.parameter_rows.specs.Returns.{returns_cells, ReturnsPass, Agrees};
 
 use judged::judged_row;
 use parameter_text::Question;
@@ -19,9 +19,9 @@ const LARGEST_RETURN: u32 = 400_000_000;
 // The row then has its returns in hundred-millionths; after a refusal nothing is said of what it has.
 // Nearly every row has the usual spelling and is read in one pass; any other line is judged question by question.
 pub fn returns_row(text: &[u8], row: &mut [i32]) -> Result<usize, Question>
-    ensures judged { Agrees (returns-cells (length row.old) (cells (line_of text.now))) result row.new }
+    ensures judged { Agrees (returns_cells (length row.old) (cells (line_of text.now))) result row.new }
     ensures next { IfOk result (λ next. (drop next text.now ≡ after_line text.now) × (next ≤ length text.now)) }
-    ensures law { Returns-pass }
+    ensures law { ReturnsPass }
 {
     match usual_row(text, row) {
         Some(next) => Ok(next),

@@ -3,7 +3,7 @@
 ghost use Rattle.std.specs.Prelude.{◌≡◌, ◌+◌, ◌-◌, ◌<◌, ◌≤◌, length, take, drop, IfSome, Ok, OnSome};
 ghost use Rattle.parameter_text.specs.Cuts.{cells, line_of, after_line};
 ghost use Rattle.parameter_text.specs.Decimals.{signed};
-ghost use Rattle.parameter_rows.specs.Returns.{largest-return, Spells-return, returns-cells, Returns-pass};
+ghost use Rattle.parameter_rows.specs.Returns.{largest_return, SpellsReturn, returns_cells, ReturnsPass};
 ghost use Rattle.parameter_rows.specs.Reading.{Digits, Sized, Ends};
 
 use super::LARGEST_RETURN;
@@ -71,7 +71,7 @@ fn size(text: &[u8], at: usize) -> Option<(u32, usize)>
 
 // A size with its sign.
 fn with_sign(minus: bool, size: u32) -> i32
-    requires { size ≤ largest-return }
+    requires { size ≤ largest_return }
     ensures { result ≡ signed minus size }
 {
     let v = size as i32;
@@ -81,7 +81,7 @@ fn with_sign(minus: bool, size: u32) -> i32
 // The return that stands at `from`, if it has the usual spelling, and where it ends.
 // Half of all returns have a minus, and no processor foresees which: it moves the place, and no branch hangs on it.
 fn cell(text: &[u8], from: usize) -> Option<(i32, usize)>
-    ensures found { IfSome result (λ p. Spells-return (take (p.1 - from) (drop from text.now)) p.0) }
+    ensures found { IfSome result (λ p. SpellsReturn (take (p.1 - from) (drop from text.now)) p.0) }
     ensures ends { IfSome result (λ p. (from < p.1) × (p.1 < length text.now)) }
 {
     if text.len() < WINDOW || text.len() - WINDOW < from {
@@ -120,9 +120,9 @@ fn line_end(text: &[u8], from: usize) -> Option<usize>
 // A row of returns from the front of `text`, if each has the usual spelling: where the next line starts.
 // None says nothing of the line, and leaves some of its returns in the row.
 pub(crate) fn usual_row(text: &[u8], row: &mut [i32]) -> Option<usize>
-    ensures passes { OnSome result (returns-cells (length row.old) (cells (line_of text.now)) ≡ Ok row.new) }
+    ensures passes { OnSome result (returns_cells (length row.old) (cells (line_of text.now)) ≡ Ok row.new) }
     ensures next { IfSome result (λ next. (drop next text.now ≡ after_line text.now) × (next ≤ length text.now)) }
-    ensures law { Returns-pass }
+    ensures law { ReturnsPass }
 {
     let n = row.len();
     if n == 0 {

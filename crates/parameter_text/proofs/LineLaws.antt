@@ -4,121 +4,121 @@ use Rattle.std.specs.List.{prefix_len, AllByRecursion as All}
 use Rattle.std.proofs.lemmas.List.{append_assoc, append-nil, take_at, drop_at, take_all, drop_all, drop_more, length-append}
 use Rattle.std.proofs.lemmas.Bool.{cond-true, cond-false, cases_lt}
 use Rattle.std.proofs.lemmas.Bool.Decides.{nat_tests}
-use Rattle.parameter_text.specs.Cuts.{split, chomped, last_line, ended-lines, lines, ended, within-line, line_of, after_line, Starts}
-use Rattle.parameter_text.proofs.CutLaws.{before, split-some, split-front, split-whole}
+use Rattle.parameter_text.specs.Cuts.{split, chomped, last_line, ended_lines, lines, ended, within_line, line_of, after_line, Starts}
+use Rattle.parameter_text.proofs.CutLaws.{before, split_some, split_front, split_whole}
 
-pub chomped-cr : (xs : List ℕ) → 0 < length xs → get_or xs (length xs - 1) 0 ≡ 13 → take (length xs - 1) xs ≡ chomped xs
-chomped-cr [] h e = absurd (omega arith)
-chomped-cr (x ∷ []) h e = sym (cond-true (eqb x 13) _ _ (grind (arith, nat_tests)))
-chomped-cr (x ∷ y ∷ ys) h e =
+pub chomped_cr : (xs : List ℕ) → 0 < length xs → get_or xs (length xs - 1) 0 ≡ 13 → take (length xs - 1) xs ≡ chomped xs
+chomped_cr [] h e = absurd (omega arith)
+chomped_cr (x ∷ []) h e = sym (cond-true (eqb x 13) _ _ (grind (arith, nat_tests)))
+chomped_cr (x ∷ y ∷ ys) h e =
     let down : suc (suc (length ys)) - 1 ≡ suc (suc (length ys) - 1) = omega arith in
-    rw down (ap (λ l. x ∷ l) (chomped-cr (y ∷ ys) (omega arith) (rw down at e)))
+    rw down (ap (λ l. x ∷ l) (chomped_cr (y ∷ ys) (omega arith) (rw down at e)))
 
-pub chomped-same : (xs : List ℕ) → (0 < length xs → get_or xs (length xs - 1) 0 ≡ 13 → ⊥) → xs ≡ chomped xs
-chomped-same [] n = refl
-chomped-same (x ∷ []) n = sym (cond-false (eqb x 13) _ _ (let m : x ≡ 13 → ⊥ = n (omega arith) in grind (arith, nat_tests)))
-chomped-same (x ∷ y ∷ ys) n =
+pub chomped_same : (xs : List ℕ) → (0 < length xs → get_or xs (length xs - 1) 0 ≡ 13 → ⊥) → xs ≡ chomped xs
+chomped_same [] n = refl
+chomped_same (x ∷ []) n = sym (cond-false (eqb x 13) _ _ (let m : x ≡ 13 → ⊥ = n (omega arith) in grind (arith, nat_tests)))
+chomped_same (x ∷ y ∷ ys) n =
     let down : suc (suc (length ys)) - 1 ≡ suc (suc (length ys) - 1) = omega arith in
-    ap (λ l. x ∷ l) (chomped-same (y ∷ ys) (λ _. (rw down at n) (omega arith)))
+    ap (λ l. x ∷ l) (chomped_same (y ∷ ys) (λ _. (rw down at n) (omega arith)))
 
-pub line-cut : (xs : List ℕ) (n : ℕ) → n ≡ prefix_len within-line xs → n < length xs → chomped (take (n - 0) xs) ≡ line_of xs
-line-cut xs n e h =
+pub line_cut : (xs : List ℕ) (n : ℕ) → n ≡ prefix_len within_line xs → n < length xs → chomped (take (n - 0) xs) ≡ line_of xs
+line_cut xs n e h =
     let z : n - 0 ≡ n = omega arith in
     rw z (sym (ap (λ (k : ℕ). ended (take k xs) (drop k xs)) (sym e) ∙ ap (ended (take n xs)) (drop_more xs n 0 h)))
 
-pub line-whole : (xs : List ℕ) (n : ℕ) → n ≡ prefix_len within-line xs → length xs ≤ n → xs ≡ line_of xs
-line-whole xs n e h =
+pub line_whole : (xs : List ℕ) (n : ℕ) → n ≡ prefix_len within_line xs → length xs ≤ n → xs ≡ line_of xs
+line_whole xs n e h =
     sym (ap (λ (k : ℕ). ended (take k xs) (drop k xs)) (sym e) ∙ ap (ended (take n xs)) (drop_all n xs h) ∙ take_all n xs h)
 
-pub after-cut : (xs : List ℕ) (n : ℕ) → n ≡ prefix_len within-line xs → drop (n + 1) xs ≡ after_line xs
-after-cut xs n e = ap (λ (k : ℕ). drop (k + 1) xs) e
+pub after_cut : (xs : List ℕ) (n : ℕ) → n ≡ prefix_len within_line xs → drop (n + 1) xs ≡ after_line xs
+after_cut xs n e = ap (λ (k : ℕ). drop (k + 1) xs) e
 
-pub after-whole : (xs : List ℕ) (n : ℕ) → n ≡ prefix_len within-line xs → length xs ≤ n → drop n xs ≡ after_line xs
-after-whole xs n e h = drop_all n xs h ∙ sym (drop_all (n + 1) xs (omega arith)) ∙ after-cut xs n e
+pub after_whole : (xs : List ℕ) (n : ℕ) → n ≡ prefix_len within_line xs → length xs ≤ n → drop n xs ≡ after_line xs
+after_whole xs n e h = drop_all n xs h ∙ sym (drop_all (n + 1) xs (omega arith)) ∙ after_cut xs n e
 
-ended-more : (l ys : List ℕ) → ended-lines (l ∷ split 10 ys) ≡ chomped l ∷ ended-lines (split 10 ys)
-ended-more l ys = let s = split-some 10 ys in rw s.2 refl
+ended_more : (l ys : List ℕ) → ended_lines (l ∷ split 10 ys) ≡ chomped l ∷ ended_lines (split 10 ys)
+ended_more l ys = let s = split_some 10 ys in rw s.2 refl
 
 last_some : (l : List ℕ) → 0 < length l → last_line l ≡ l ∷ []
 last_some [] h = absurd (omega arith)
 last_some (x ∷ l) h = refl
 
-lines_cut : (xs : List ℕ) (n : ℕ) → n ≡ prefix_len within-line xs → n < length xs → lines xs ≡ line_of xs ∷ lines (drop (n + 1) xs)
+lines_cut : (xs : List ℕ) (n : ℕ) → n ≡ prefix_len within_line xs → n < length xs → lines xs ≡ line_of xs ∷ lines (drop (n + 1) xs)
 lines_cut xs n e h =
     let z : n - 0 ≡ n = omega arith in
     let k : before 10 xs < length xs = omega arith in
-    let first : chomped (take n xs) ≡ line_of xs = rw z at (line-cut xs n e h) in
-    ap ended-lines (split-front 10 xs k) ∙ ended-more (take (before 10 xs) xs) (drop (before 10 xs + 1) xs) ∙ ap (λ (m : ℕ). chomped (take m xs) ∷ lines (drop (m + 1) xs)) (sym e) ∙ ap (λ (l : List ℕ). l ∷ lines (drop (n + 1) xs)) first
+    let first : chomped (take n xs) ≡ line_of xs = rw z at (line_cut xs n e h) in
+    ap ended_lines (split_front 10 xs k) ∙ ended_more (take (before 10 xs) xs) (drop (before 10 xs + 1) xs) ∙ ap (λ (m : ℕ). chomped (take m xs) ∷ lines (drop (m + 1) xs)) (sym e) ∙ ap (λ (l : List ℕ). l ∷ lines (drop (n + 1) xs)) first
 
-lines-whole : (xs : List ℕ) (n : ℕ) → n ≡ prefix_len within-line xs → length xs ≤ n → 0 < length xs → lines xs ≡ xs ∷ lines (drop n xs)
-lines-whole xs n e h some =
-    ap ended-lines (split-whole 10 xs (omega arith)) ∙ last_some xs some ∙ ap (λ (l : List ℕ). xs ∷ lines l) (sym (drop_all n xs h))
+lines_whole : (xs : List ℕ) (n : ℕ) → n ≡ prefix_len within_line xs → length xs ≤ n → 0 < length xs → lines xs ≡ xs ∷ lines (drop n xs)
+lines_whole xs n e h some =
+    ap ended_lines (split_whole 10 xs (omega arith)) ∙ last_some xs some ∙ ap (λ (l : List ℕ). xs ∷ lines l) (sym (drop_all n xs h))
 
 -- a text that is not empty has a first line, and then the lines of what follows it
 pub lines_step : (xs : List ℕ) → 0 < length xs → lines xs ≡ line_of xs ∷ lines (after_line xs)
 lines_step xs some =
     ⊎_elim
-    (λ (h : prefix_len within-line xs < length xs). lines_cut xs (prefix_len within-line xs) refl h)
-    (λ (h : length xs ≤ prefix_len within-line xs). lines-whole xs (prefix_len within-line xs) refl h some ∙ ap (λ (l : List ℕ). l ∷ lines (drop (prefix_len within-line xs) xs)) (line-whole xs (prefix_len within-line xs) refl h) ∙ ap (λ (l : List ℕ). line_of xs ∷ lines l) (after-whole xs (prefix_len within-line xs) refl h))
-    (cases_lt (prefix_len within-line xs) (length xs))
+    (λ (h : prefix_len within_line xs < length xs). lines_cut xs (prefix_len within_line xs) refl h)
+    (λ (h : length xs ≤ prefix_len within_line xs). lines_whole xs (prefix_len within_line xs) refl h some ∙ ap (λ (l : List ℕ). l ∷ lines (drop (prefix_len within_line xs) xs)) (line_whole xs (prefix_len within_line xs) refl h) ∙ ap (λ (l : List ℕ). line_of xs ∷ lines l) (after_whole xs (prefix_len within_line xs) refl h))
+    (cases_lt (prefix_len within_line xs) (length xs))
 
 -- a line without CR and LF, and what follows it
 
 abbrev pub Inside : ℕ → Type 0
 Inside b = 14 ≤ b
 
-run-of-line : (line t : List ℕ) → All Inside line → prefix_len within-line t ≡ 0 → prefix_len within-line (line ++ t) ≡ length line
-run-of-line [] t h e = e
-run-of-line (x ∷ line) t h e =
+run_of_line : (line t : List ℕ) → All Inside line → prefix_len within_line t ≡ 0 → prefix_len within_line (line ++ t) ≡ length line
+run_of_line [] t h e = e
+run_of_line (x ∷ line) t h e =
     let no : eqb x 10 ≡ false = grind (arith, nat_tests) in
-    cond-true (not (eqb x 10)) _ _ (ap not no) ∙ omega (arith, run-of-line line t h.1 e)
+    cond-true (not (eqb x 10)) _ _ (ap not no) ∙ omega (arith, run_of_line line t h.1 e)
 
-run-to-cr : (line t : List ℕ) → All Inside line → prefix_len within-line (line ++ 13 ∷ 10 ∷ t) ≡ length line + 1
-run-to-cr [] t h = refl
-run-to-cr (x ∷ line) t h =
+run_to_cr : (line t : List ℕ) → All Inside line → prefix_len within_line (line ++ 13 ∷ 10 ∷ t) ≡ length line + 1
+run_to_cr [] t h = refl
+run_to_cr (x ∷ line) t h =
     let no : eqb x 10 ≡ false = grind (arith, nat_tests) in
-    cond-true (not (eqb x 10)) _ _ (ap not no) ∙ omega (arith, run-to-cr line t h.1)
+    cond-true (not (eqb x 10)) _ _ (ap not no) ∙ omega (arith, run_to_cr line t h.1)
 
-inside-same : (line : List ℕ) → All Inside line → chomped line ≡ line
-inside-same [] h = refl
-inside-same (x ∷ []) h = let no : eqb x 13 ≡ false = grind (arith, nat_tests) in cond-false (eqb x 13) _ _ no
-inside-same (x ∷ y ∷ ys) h = ap (λ (l : List ℕ). x ∷ l) (inside-same (y ∷ ys) h.1)
+inside_same : (line : List ℕ) → All Inside line → chomped line ≡ line
+inside_same [] h = refl
+inside_same (x ∷ []) h = let no : eqb x 13 ≡ false = grind (arith, nat_tests) in cond-false (eqb x 13) _ _ no
+inside_same (x ∷ y ∷ ys) h = ap (λ (l : List ℕ). x ∷ l) (inside_same (y ∷ ys) h.1)
 
-inside-cr : (line : List ℕ) → All Inside line → chomped (line ++ 13 ∷ []) ≡ line
-inside-cr [] h = refl
-inside-cr (x ∷ []) h = refl
-inside-cr (x ∷ y ∷ ys) h = ap (λ (l : List ℕ). x ∷ l) (inside-cr (y ∷ ys) h.1)
+inside_cr : (line : List ℕ) → All Inside line → chomped (line ++ 13 ∷ []) ≡ line
+inside_cr [] h = refl
+inside_cr (x ∷ []) h = refl
+inside_cr (x ∷ y ∷ ys) h = ap (λ (l : List ℕ). x ∷ l) (inside_cr (y ∷ ys) h.1)
 
 module _ (line rest : List ℕ) (h : All Inside line) where
-  at-lf : (line_of (line ++ 10 ∷ rest) ≡ line) × (after_line (line ++ 10 ∷ rest) ≡ rest)
-  at-lf =
-      let n = run-of-line line (10 ∷ rest) h refl in
-      let front : take (prefix_len within-line (line ++ 10 ∷ rest)) (line ++ 10 ∷ rest) ≡ line = take_at line (10 ∷ rest) _ (sym n) in
-      let back : drop (prefix_len within-line (line ++ 10 ∷ rest)) (line ++ 10 ∷ rest) ≡ 10 ∷ rest = drop_at line (10 ∷ rest) _ (sym n) in (
-        ap (λ (l : List ℕ). ended l (drop (prefix_len within-line (line ++ 10 ∷ rest)) (line ++ 10 ∷ rest))) front ∙ ap (ended line) back ∙ inside-same line h,
-        ap (λ (l : List ℕ). drop (prefix_len within-line (line ++ 10 ∷ rest) + 1) l) (sym (append_assoc line (10 ∷ []) rest)) ∙ drop_at (line ++ 10 ∷ []) rest _ (omega (arith, n, length-append line (10 ∷ []))),
+  at_lf : (line_of (line ++ 10 ∷ rest) ≡ line) × (after_line (line ++ 10 ∷ rest) ≡ rest)
+  at_lf =
+      let n = run_of_line line (10 ∷ rest) h refl in
+      let front : take (prefix_len within_line (line ++ 10 ∷ rest)) (line ++ 10 ∷ rest) ≡ line = take_at line (10 ∷ rest) _ (sym n) in
+      let back : drop (prefix_len within_line (line ++ 10 ∷ rest)) (line ++ 10 ∷ rest) ≡ 10 ∷ rest = drop_at line (10 ∷ rest) _ (sym n) in (
+        ap (λ (l : List ℕ). ended l (drop (prefix_len within_line (line ++ 10 ∷ rest)) (line ++ 10 ∷ rest))) front ∙ ap (ended line) back ∙ inside_same line h,
+        ap (λ (l : List ℕ). drop (prefix_len within_line (line ++ 10 ∷ rest) + 1) l) (sym (append_assoc line (10 ∷ []) rest)) ∙ drop_at (line ++ 10 ∷ []) rest _ (omega (arith, n, length-append line (10 ∷ []))),
       )
 
-  at-cr : (line_of (line ++ 13 ∷ 10 ∷ rest) ≡ line) × (after_line (line ++ 13 ∷ 10 ∷ rest) ≡ rest)
-  at-cr =
+  at_cr : (line_of (line ++ 13 ∷ 10 ∷ rest) ≡ line) × (after_line (line ++ 13 ∷ 10 ∷ rest) ≡ rest)
+  at_cr =
       let xs = line ++ 13 ∷ 10 ∷ rest in
-      let n = run-to-cr line rest h in
+      let n = run_to_cr line rest h in
       let same : xs ≡ (line ++ 13 ∷ []) ++ 10 ∷ rest = sym (append_assoc line (13 ∷ []) (10 ∷ rest)) in
       let all : xs ≡ (line ++ 13 ∷ 10 ∷ []) ++ rest = sym (append_assoc line (13 ∷ 10 ∷ []) rest) in
-      let front : take (prefix_len within-line xs) xs ≡ line ++ 13 ∷ [] = ap (take (prefix_len within-line xs)) same ∙ take_at (line ++ 13 ∷ []) (10 ∷ rest) _ (omega (arith, n, length-append line (13 ∷ []))) in
-      let back : drop (prefix_len within-line xs) xs ≡ 10 ∷ rest = ap (drop (prefix_len within-line xs)) same ∙ drop_at (line ++ 13 ∷ []) (10 ∷ rest) _ (omega (arith, n, length-append line (13 ∷ []))) in (
-        ap (λ (l : List ℕ). ended l (drop (prefix_len within-line xs) xs)) front ∙ ap (ended (line ++ 13 ∷ [])) back ∙ inside-cr line h,
-        ap (drop (prefix_len within-line xs + 1)) all ∙ drop_at (line ++ 13 ∷ 10 ∷ []) rest _ (omega (arith, n, length-append line (13 ∷ 10 ∷ []))),
+      let front : take (prefix_len within_line xs) xs ≡ line ++ 13 ∷ [] = ap (take (prefix_len within_line xs)) same ∙ take_at (line ++ 13 ∷ []) (10 ∷ rest) _ (omega (arith, n, length-append line (13 ∷ []))) in
+      let back : drop (prefix_len within_line xs) xs ≡ 10 ∷ rest = ap (drop (prefix_len within_line xs)) same ∙ drop_at (line ++ 13 ∷ []) (10 ∷ rest) _ (omega (arith, n, length-append line (13 ∷ []))) in (
+        ap (λ (l : List ℕ). ended l (drop (prefix_len within_line xs) xs)) front ∙ ap (ended (line ++ 13 ∷ [])) back ∙ inside_cr line h,
+        ap (drop (prefix_len within_line xs + 1)) all ∙ drop_at (line ++ 13 ∷ 10 ∷ []) rest _ (omega (arith, n, length-append line (13 ∷ 10 ∷ []))),
       )
 
-  at-end : (line_of line ≡ line) × (after_line line ≡ [])
-  at-end =
-      let n : prefix_len within-line line ≡ length line = ap (prefix_len within-line) (sym (append-nil line)) ∙ run-of-line line [] h refl in (
-        ap (λ (l : List ℕ). ended l (drop (prefix_len within-line line) line)) (take_all (prefix_len within-line line) line (omega (arith, n))) ∙ ap (ended line) (drop_all (prefix_len within-line line) line (omega (arith, n))),
-        drop_all (prefix_len within-line line + 1) line (omega (arith, n)),
+  at_end : (line_of line ≡ line) × (after_line line ≡ [])
+  at_end =
+      let n : prefix_len within_line line ≡ length line = ap (prefix_len within_line) (sym (append-nil line)) ∙ run_of_line line [] h refl in (
+        ap (λ (l : List ℕ). ended l (drop (prefix_len within_line line) line)) (take_all (prefix_len within_line line) line (omega (arith, n))) ∙ ap (ended line) (drop_all (prefix_len within_line line) line (omega (arith, n))),
+        drop_all (prefix_len within_line line + 1) line (omega (arith, n)),
       )
 
   pub starts_with : (text : List ℕ) → Starts text line rest → (line_of text ≡ line) × (after_line text ≡ rest)
-  starts_with text (inl e) = (ap line_of e ∙ at-lf.0, ap after_line e ∙ at-lf.1)
-  starts_with text (inr (inl e)) = (ap line_of e ∙ at-cr.0, ap after_line e ∙ at-cr.1)
-  starts_with text (inr (inr e)) = (ap line_of e.0 ∙ at-end.0, ap after_line e.0 ∙ at-end.1 ∙ sym e.1)
+  starts_with text (inl e) = (ap line_of e ∙ at_lf.0, ap after_line e ∙ at_lf.1)
+  starts_with text (inr (inl e)) = (ap line_of e ∙ at_cr.0, ap after_line e ∙ at_cr.1)
+  starts_with text (inr (inr e)) = (ap line_of e.0 ∙ at_end.0, ap after_line e.0 ∙ at_end.1 ∙ sym e.1)

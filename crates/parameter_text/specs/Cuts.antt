@@ -13,9 +13,9 @@ split b [] = [] ∷ []
 split b (x ∷ xs) = cond (x == b) ([] ∷ split b xs) (onto x (split b xs))
 
 -- the parts of what follows a cut, if there was one
-abbrev pub parts-of : ℕ → Option (List ℕ) → List (List ℕ)
-parts-of b None = []
-parts-of b (Some xs) = split b xs
+abbrev pub parts_of : ℕ → Option (List ℕ) → List (List ℕ)
+parts_of b None = []
+parts_of b (Some xs) = split b xs
 
 -- parts with one b between two
 abbrev pub spliced : ℕ → List (List ℕ) → List ℕ
@@ -31,9 +31,9 @@ abbrev pub empty : List ℕ → Bool
 empty [] = true
 empty (x ∷ xs) = false
 
-abbrev pub all-empty : List (List ℕ) → Bool
-all-empty [] = true
-all-empty (c ∷ cs) = empty c && all-empty cs
+abbrev pub all_empty : List (List ℕ) → Bool
+all_empty [] = true
+all_empty (c ∷ cs) = empty c && all_empty cs
 
 -- a line without the CR that stands before its LF
 abbrev pub chomped : List ℕ → List ℕ
@@ -46,14 +46,14 @@ abbrev pub last_line : List ℕ → List (List ℕ)
 last_line [] = []
 last_line (x ∷ l) = (x ∷ l) ∷ []
 
-abbrev pub ended-lines : List (List ℕ) → List (List ℕ)
-ended-lines [] = []
-ended-lines (l ∷ []) = last_line l
-ended-lines (l ∷ m ∷ ls) = chomped l ∷ ended-lines (m ∷ ls)
+abbrev pub ended_lines : List (List ℕ) → List (List ℕ)
+ended_lines [] = []
+ended_lines (l ∷ []) = last_line l
+ended_lines (l ∷ m ∷ ls) = chomped l ∷ ended_lines (m ∷ ls)
 
 -- the lines of a text
 abbrev pub lines : List ℕ → List (List ℕ)
-lines xs = ended-lines (split 10 xs)
+lines xs = ended_lines (split 10 xs)
 
 -- the first line of a text, and what follows it
 
@@ -61,14 +61,14 @@ abbrev pub ended : List ℕ → List ℕ → List ℕ
 ended line [] = line
 ended line (lf ∷ rest) = chomped line
 
-abbrev pub within-line : ℕ → Bool
-within-line b = not (b == 10)
+abbrev pub within_line : ℕ → Bool
+within_line b = not (b == 10)
 
 abbrev pub line_of : List ℕ → List ℕ
-line_of xs = ended (take (prefix_len within-line xs) xs) (drop (prefix_len within-line xs) xs)
+line_of xs = ended (take (prefix_len within_line xs) xs) (drop (prefix_len within_line xs) xs)
 
 abbrev pub after_line : List ℕ → List ℕ
-after_line xs = drop (prefix_len within-line xs + 1) xs
+after_line xs = drop (prefix_len within_line xs + 1) xs
 
 -- the same as a relation: an LF, a CR and an LF, or the text's end
 abbrev pub Starts : List ℕ → List ℕ → List ℕ → Type 0

@@ -8,10 +8,10 @@ use Rattle.parameter_text.specs.declared.terms.Places.{Places}
 use Rattle.parameter_text.specs.declared.terms.Places.TheVariants.{Four, Eight, Ten}
 use Rattle.parameter_text.specs.Digits.{Digit, digit, every, number}
 
-abbrev pub place-count : Places → ℕ
-place-count Four = 4
-place-count Eight = 8
-place-count Ten = 10
+abbrev pub place_count : Places → ℕ
+place_count Four = 4
+place_count Eight = 8
+place_count Ten = 10
 
 -- the size of a decimal, in units of its last place: places that are not written are 0
 abbrev pub scaled : ℕ → List ℕ → List ℕ → ℕ
@@ -28,18 +28,18 @@ sign_text true = 45 ∷ []
 sign_text false = []
 
 -- a fraction of no digits has no point
-abbrev pub point-text : List ℕ → List ℕ
-point-text [] = []
-point-text (d ∷ ds) = 46 ∷ d ∷ ds
+abbrev pub point_text : List ℕ → List ℕ
+point_text [] = []
+point_text (d ∷ ds) = 46 ∷ d ∷ ds
 
 pub record Spelling (places : ℕ) (low high : ℤ) (bs : List ℕ) (v : ℤ) (minus : Bool) (whole fraction : List ℕ) : Type 0 where
-  pub text : bs ≡ sign_text minus ++ (whole ++ point-text fraction)
-  pub whole-digits : AllByRecursion Digit whole
-  pub fraction-digits : AllByRecursion Digit fraction
+  pub text : bs ≡ sign_text minus ++ (whole ++ point_text fraction)
+  pub whole_digits : AllByRecursion Digit whole
+  pub fraction_digits : AllByRecursion Digit fraction
   pub one : 1 ≤ length whole
   pub four : length whole ≤ 4
   pub ten : length fraction ≤ 10
-  pub no-more-places : AllByRecursion (λ d. d ≡ 48) (drop places fraction)
+  pub no_more_places : AllByRecursion (λ d. d ≡ 48) (drop places fraction)
   pub value : v ≡ signed minus (scaled places whole fraction)
   pub at_least : low ≤ℤ v
   pub at_most : v ≤ℤ high
@@ -50,13 +50,13 @@ Spells places low high bs v = (minus : Bool) × (whole : List ℕ) × (fraction 
 
 -- The judgement: the value, or the question that the cell fails.
 
-abbrev pub minus-in : List ℕ → Bool
-minus-in [] = false
-minus-in (b ∷ bs) = b == 45
+abbrev pub minus_in : List ℕ → Bool
+minus_in [] = false
+minus_in (b ∷ bs) = b == 45
 
-abbrev pub unsigned-in : List ℕ → List ℕ
-unsigned-in [] = []
-unsigned-in (b ∷ bs) = cond (b == 45) bs (b ∷ bs)
+abbrev pub unsigned_in : List ℕ → List ℕ
+unsigned_in [] = []
+unsigned_in (b ∷ bs) = cond (b == 45) bs (b ∷ bs)
 
 -- nothing, or a point and one to ten digits
 abbrev pub pointed : List ℕ → Bool
@@ -80,8 +80,8 @@ abbrev pub plain : ℕ → ℤ → ℤ → Bool → List ℕ → Result ℤ Ques
 plain places low high minus bs = judged places low high minus (take (prefix_len digit bs) bs) (drop (prefix_len digit bs) bs)
 
 abbrev pub decimal : ℕ → ℤ → ℤ → List ℕ → Result ℤ Question
-decimal places low high bs = plain places low high (minus-in bs) (unsigned-in bs)
+decimal places low high bs = plain places low high (minus_in bs) (unsigned_in bs)
 
 -- A cell passes exactly where it spells a value in range, with that value.
-abbrev pub Decimals-pass : Type 0
-Decimals-pass = (places : ℕ) (low high : ℤ) (bs : List ℕ) (v : ℤ) → (decimal places low high bs ≡ Ok v → Spells places low high bs v) × (Spells places low high bs v → decimal places low high bs ≡ Ok v)
+abbrev pub DecimalsPass : Type 0
+DecimalsPass = (places : ℕ) (low high : ℤ) (bs : List ℕ) (v : ℤ) → (decimal places low high bs ≡ Ok v → Spells places low high bs v) × (Spells places low high bs v → decimal places low high bs ≡ Ok v)

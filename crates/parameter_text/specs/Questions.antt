@@ -4,19 +4,19 @@ use Rattle.parameter_text.specs.declared.terms.Question.{Question}
 use Rattle.parameter_text.specs.declared.terms.Question.TheVariants.{Length, Presence, Name, Cells, Form, Range, First, Tier}
 
 -- the number that a refusal carries
-abbrev pub question-number : Question → ℕ
-question-number Length = 1
-question-number Presence = 2
-question-number Name = 3
-question-number Cells = 4
-question-number Form = 5
-question-number Range = 6
-question-number First = 7
-question-number Tier = 8
+abbrev pub question_number : Question → ℕ
+question_number Length = 1
+question_number Presence = 2
+question_number Name = 3
+question_number Cells = 4
+question_number Form = 5
+question_number Range = 6
+question_number First = 7
+question_number Tier = 8
 
 -- the one of two questions that is asked first
 abbrev pub sooner : Question → Question → Question
-sooner p q = cond (nat_le (question-number p) (question-number q)) p q
+sooner p q = cond (nat_le (question_number p) (question_number q)) p q
 
 -- two things judged side by side: the first question that either fails
 abbrev pub both : {X Y Z : Type 0} → (X → Y → Z) → Result X Question → Result Y Question → Result Z Question

@@ -2,8 +2,8 @@
 ghost use Rattle.std.specs.Prelude.{◌≡◌, ℕ, ◌+◌, ◌<◌, ◌≤◌, not, [], ◌∷◌, length, drop, MatchOption, ◌==◌};
 ghost use Rattle.std.specs.Option.{option_map};
 ghost use Rattle.std.specs.List.{prefix_len};
-ghost use Rattle.parameter_text.specs.Cuts.{split, parts-of, cells, all-empty, chomped, line_of, after_line, lines};
-ghost use Rattle.parameter_text.specs.Left.{cells_left, lines_left, text-left};
+ghost use Rattle.parameter_text.specs.Cuts.{split, parts_of, cells, all_empty, chomped, line_of, after_line, lines};
+ghost use Rattle.parameter_text.specs.Left.{cells_left, lines_left, text_left};
 
 // How many bytes stand before the first `b`.
 fn run_to(bytes: &[u8], b: u8) -> usize
@@ -62,7 +62,7 @@ impl<'a> Cells<'a> {
 
     // The text of the cells that are still to come, if any is.
     pub fn rest(&self) -> Option<&'a [u8]>
-        ensures { cells_left self.now ≡ parts-of 44 (option_map (λ x. x.now) result) }
+        ensures { cells_left self.now ≡ parts_of 44 (option_map (λ x. x.now) result) }
     {
         match self.rest {
             Some(text) => Some(text),
@@ -72,7 +72,7 @@ impl<'a> Cells<'a> {
 
     // Are all cells that are still to come empty?
     pub fn are_empty(self) -> bool
-        ensures { result ≡ all-empty (cells_left self.entry) }
+        ensures { result ≡ all_empty (cells_left self.entry) }
     {
         let mut left = self;
         while let Some(cell) = left.next_cell() {
@@ -118,14 +118,14 @@ pub struct Lines<'a> {
 impl<'a> Lines<'a> {
     // All lines of a text.
     pub fn new(text: &'a [u8]) -> Lines<'a>
-        ensures { text-left result ≡ text.now }
+        ensures { text_left result ≡ text.now }
     {
         Lines { rest: text }
     }
 
     // What no line was taken of yet.
     pub fn rest(&self) -> &'a [u8]
-        ensures { result.now ≡ text-left self.now }
+        ensures { result.now ≡ text_left self.now }
     {
         let text = self.rest;
         text
@@ -133,7 +133,7 @@ impl<'a> Lines<'a> {
 
     // The next line without its end, or none at the end of the text.
     pub fn next_line(&mut self) -> Option<&'a [u8]>
-        ensures line { MatchOption result (text-left self.old ≡ []) (λ line. (line.now ≡ line_of (text-left self.old)) × (text-left self.new ≡ after_line (text-left self.old))) }
+        ensures line { MatchOption result (text_left self.old ≡ []) (λ line. (line.now ≡ line_of (text_left self.old)) × (text_left self.new ≡ after_line (text_left self.old))) }
         ensures left { MatchOption result (lines_left self.old ≡ []) (λ line. lines_left self.old ≡ line.now ∷ lines_left self.new) }
     {
         let (line, rest) = first_line(self.rest)?;

@@ -1,6 +1,6 @@
 // Dates: day/month/year, a day of the calendar from 2000 to 2099.
 ghost use Rattle.std.specs.Prelude.{◌≡◌, ◌&&◌, nat_le};
-ghost use Rattle.parameter_text.specs.Dates.{leap, short-month, days-in, real, sized, written-day, date-of, date-cell, Dates-pass};
+ghost use Rattle.parameter_text.specs.Dates.{leap, short_month, days_in, real, sized, written_day, date_of, date_cell, DatesPass};
 
 use super::cuts::cut_at;
 use super::digits::all_digits;
@@ -14,13 +14,13 @@ fn is_leap(year: u32) -> bool
 }
 
 fn is_short(month: u32) -> bool
-    ensures { result ≡ short-month month }
+    ensures { result ≡ short_month month }
 {
     month == 4 || month == 6 || month == 9 || month == 11
 }
 
 fn days(month: u32, year: u32) -> u32
-    ensures { result ≡ days-in month year }
+    ensures { result ≡ days_in month year }
 {
     if month == 2 {
         if is_leap(year) { 29 } else { 28 }
@@ -53,7 +53,7 @@ fn is_sized(part: &[u8], low: usize, high: usize) -> bool
 
 // A day in its three parts, if each has its form.
 fn written(day: &[u8], month: &[u8], year: &[u8]) -> Option<Date>
-    ensures { result ≡ written-day day.now month.now year.now }
+    ensures { result ≡ written_day day.now month.now year.now }
 {
     if is_sized(day, 1, 2) && is_sized(month, 1, 2) && is_sized(year, 4, 4) {
         Some(Date {
@@ -68,8 +68,8 @@ fn written(day: &[u8], month: &[u8], year: &[u8]) -> Option<Date>
 
 // The day that a cell writes, if it has the form of one.
 fn written_date(cell: &[u8]) -> Option<Date>
-    ensures date { result ≡ date-of cell.now }
-    ensures law { Dates-pass }
+    ensures date { result ≡ date_of cell.now }
+    ensures law { DatesPass }
 {
     let Some((day, rest)) = cut_at(cell, b'/') else {
         return None;
@@ -85,8 +85,8 @@ fn written_date(cell: &[u8]) -> Option<Date>
 
 // The day that a cell writes, or the question that it fails.
 pub fn date(cell: &[u8]) -> Result<Date, Question>
-    ensures date { result ≡ date-cell cell.now }
-    ensures law { Dates-pass }
+    ensures date { result ≡ date_cell cell.now }
+    ensures law { DatesPass }
 {
     match written_date(cell) {
         None => Err(Question::Form),

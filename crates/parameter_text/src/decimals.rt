@@ -2,7 +2,7 @@
 ghost use Rattle.std.specs.Prelude.{◌≡◌, ℕ, ◌+◌, ◌-◌, ◌*◌, ◌^◌, ◌≤◌, length, take, drop};
 ghost use Rattle.std.specs.List.{AllByRecursion};
 ghost use Rattle.parameter_text.specs.Digits.{Digit};
-ghost use Rattle.parameter_text.specs.Decimals.{place-count, scaled, signed, minus-in, unsigned-in, pointed, formed, valued, judged, plain as plain_of_lem, decimal, Decimals-pass};
+ghost use Rattle.parameter_text.specs.Decimals.{place_count, scaled, signed, minus_in, unsigned_in, pointed, formed, valued, judged, plain as plain_of, decimal, DecimalsPass};
 
 use super::digits::{all_digits, all_zeros, leading_digits, number_of};
 use super::terms::{DecimalRule, Places, Question};
@@ -23,7 +23,7 @@ const POWERS: [u64; 11] = [
 ];
 
 fn count(places: Places) -> usize
-    ensures value { result ≡ place-count places }
+    ensures value { result ≡ place_count places }
     ensures few { result ≤ 10 }
 {
     match places {
@@ -35,8 +35,8 @@ fn count(places: Places) -> usize
 
 // Is there a minus, and what follows it.
 fn sign(cell: &[u8]) -> (bool, &[u8])
-    ensures minus { result.0 ≡ minus-in cell.now }
-    ensures rest { result.1.now ≡ unsigned-in cell.now }
+    ensures minus { result.0 ≡ minus_in cell.now }
+    ensures rest { result.1.now ≡ unsigned_in cell.now }
 {
     match cell {
         [b'-', rest @ ..] => (true, rest),
@@ -131,7 +131,7 @@ fn in_range(rule: &DecimalRule, places: usize, fraction: &[u8], v: i64) -> Resul
 // A cell in its parts: its sign, the digits of its whole part, and what follows them.
 fn parts(rule: &DecimalRule, minus: bool, whole: &[u8], rest: &[u8]) -> Result<i64, Question>
     requires { AllByRecursion Digit whole.now }
-    ensures { result ≡ judged (place-count rule.now.places) rule.now.low rule.now.high minus whole.now rest.now }
+    ensures { result ≡ judged (place_count rule.now.places) rule.now.low rule.now.high minus whole.now rest.now }
 {
     if !is_formed(whole, rest) {
         return Err(Question::Form);
@@ -143,8 +143,8 @@ fn parts(rule: &DecimalRule, minus: bool, whole: &[u8], rest: &[u8]) -> Result<i
 }
 
 fn plain(rule: &DecimalRule, minus: bool, bytes: &[u8]) -> Result<i64, Question>
-    ensures value { result ≡ plain_of_lem (place-count rule.now.places) rule.now.low rule.now.high minus bytes.now }
-    ensures law { Decimals-pass }
+    ensures value { result ≡ plain_of (place_count rule.now.places) rule.now.low rule.now.high minus bytes.now }
+    ensures law { DecimalsPass }
 {
     let n = leading_digits(bytes);
     parts(rule, minus, &bytes[..n], &bytes[n..])
@@ -153,8 +153,8 @@ fn plain(rule: &DecimalRule, minus: bool, bytes: &[u8]) -> Result<i64, Question>
 impl DecimalRule {
     // What a cell is worth in units of the last place, or the question that it fails.
     pub fn value(&self, cell: &[u8]) -> Result<i64, Question>
-        ensures value { result ≡ decimal (place-count self.now.places) self.now.low self.now.high cell.now }
-        ensures law { Decimals-pass }
+        ensures value { result ≡ decimal (place_count self.now.places) self.now.low self.now.high cell.now }
+        ensures law { DecimalsPass }
     {
         let (minus, rest) = sign(cell);
         plain(self, minus, rest)

@@ -2,7 +2,7 @@
 ghost use Rattle.std.specs.Prelude.{◌≡◌, ℕ, ◌≤◌, length};
 ghost use Rattle.std.specs.List.{AllByRecursion};
 ghost use Rattle.parameter_text.specs.Digits.{Digit, number};
-ghost use Rattle.parameter_text.specs.Integers.{whole-formed, whole_of, bounded, integer, zero-first, stock-of, stock-cell, Integers-pass, Stocks-pass};
+ghost use Rattle.parameter_text.specs.Integers.{whole_formed, whole_of, bounded, integer, zero_first, stock_of, stock_cell, IntegersPass, StocksPass};
 
 use super::digits::{all_digits, number_of};
 use super::terms::{IntegerRule, Question};
@@ -14,7 +14,7 @@ const STOCK: IntegerRule = IntegerRule {
 };
 
 fn is_whole(cell: &[u8]) -> bool
-    ensures { result ≡ whole-formed cell.now }
+    ensures { result ≡ whole_formed cell.now }
 {
     cell.len() >= 1 && cell.len() <= 9 && all_digits(cell)
 }
@@ -41,7 +41,7 @@ fn in_range(rule: &IntegerRule, n: u32) -> Result<u32, Question>
 // The number that a cell writes, if it has the form of one.
 fn whole_number(cell: &[u8]) -> Option<u32>
     ensures number { result ≡ whole_of cell.now }
-    ensures law { Integers-pass }
+    ensures law { IntegersPass }
 {
     if is_whole(cell) {
         Some(small_number(cell))
@@ -54,7 +54,7 @@ impl IntegerRule {
     // The number that a cell writes, or the question that it fails.
     pub fn number(&self, cell: &[u8]) -> Result<u32, Question>
         ensures number { result ≡ integer self.now.low self.now.high cell.now }
-        ensures law { Integers-pass }
+        ensures law { IntegersPass }
     {
         match whole_number(cell) {
             Some(n) => in_range(self, n),
@@ -64,7 +64,7 @@ impl IntegerRule {
 }
 
 fn starts_with_zero(cell: &[u8]) -> bool
-    ensures { result ≡ zero-first cell.now }
+    ensures { result ≡ zero_first cell.now }
 {
     match cell {
         [b'0', ..] => true,
@@ -74,8 +74,8 @@ fn starts_with_zero(cell: &[u8]) -> bool
 
 // The number that a stock's cell writes, if it has the form of one.
 fn stock_number(cell: &[u8]) -> Option<u32>
-    ensures number { result ≡ stock-of cell.now }
-    ensures law { Stocks-pass }
+    ensures number { result ≡ stock_of cell.now }
+    ensures law { StocksPass }
 {
     if starts_with_zero(cell) {
         None
@@ -86,8 +86,8 @@ fn stock_number(cell: &[u8]) -> Option<u32>
 
 // The stock that a cell writes, or the question that it fails.
 pub fn stock(cell: &[u8]) -> Result<u32, Question>
-    ensures stock { result ≡ stock-cell cell.now }
-    ensures law { Stocks-pass }
+    ensures stock { result ≡ stock_cell cell.now }
+    ensures law { StocksPass }
 {
     match stock_number(cell) {
         Some(n) => in_range(&STOCK, n),

@@ -1,13 +1,13 @@
 // The numbers of the questions, and which comes first.
 ghost use Rattle.std.specs.Prelude.{◌≡◌};
-ghost use Rattle.parameter_text.specs.Questions.{question-number, sooner as sooner-of};
+ghost use Rattle.parameter_text.specs.Questions.{question_number, sooner as sooner_of};
 
 use super::terms::Question;
 
 impl Question {
     // The number that a refusal carries.
     pub fn number(self) -> u32
-        ensures { result ≡ question-number self }
+        ensures { result ≡ question_number self }
     {
         match self {
             Question::Length => 1,
@@ -23,7 +23,7 @@ impl Question {
 
     // The one of two questions that is asked first.
     pub fn sooner(self, other: Question) -> Question
-        ensures { result ≡ sooner-of self other }
+        ensures { result ≡ sooner_of self other }
     {
         if self.number() <= other.number() {
             self

@@ -18,31 +18,31 @@ pub record Meaning : Type 0 where
   pub entitlement : EntitlementType → ℕ → Option Entitlement
 
 -- the tier by which rows a stock has: both return rows, a flat rate, or neither
-abbrev pub tier-by : Bool → Bool → Bool → Option Tier
-tier-by true true f = Some Portfolio
-tier-by true false true = Some Flat
-tier-by true false false = None
-tier-by false h true = Some Flat
-tier-by false h false = None
+abbrev pub tier_by : Bool → Bool → Bool → Option Tier
+tier_by true true f = Some Portfolio
+tier_by true false true = Some Flat
+tier_by true false false = None
+tier_by false h true = Some Flat
+tier_by false h false = None
 
-abbrev pub tier-of : Meaning → ℕ → Option Tier
-tier-of m s = tier-by (is_some (m.returns Historical s)) (is_some (m.returns Stress s)) (is_some (m.rate s))
+abbrev pub tier_of : Meaning → ℕ → Option Tier
+tier_of m s = tier_by (is_some (m.returns Historical s)) (is_some (m.returns Stress s)) (is_some (m.rate s))
 
 -- the price of an entitlement, and the pair of its short and long percentage
 abbrev pub numbers_of : Entitlement → ℕ × (ℕ × ℕ)
 numbers_of e = (e.price, (e.short, e.long))
 
 -- what writing a row answers, at a sheet of n places: how many returns there are, or why none is written
-abbrev pub row-answer : Option (List ℤ) → ℕ → Result ℕ RowRefusal
-row-answer None n = Err NoRow
-row-answer (Some xs) n = cond (nat_lt n (length xs)) (Err ShortSheet) (Ok (length xs))
+abbrev pub row_answer : Option (List ℤ) → ℕ → Result ℕ RowRefusal
+row_answer None n = Err NoRow
+row_answer (Some xs) n = cond (nat_lt n (length xs)) (Err ShortSheet) (Ok (length xs))
 
 -- what a sheet holds after the writing of a row: the row in front and the rest as it was, or all as it was
-abbrev pub row-sheet : Option (List ℤ) → List ℤ → List ℤ
-row-sheet None sheet = sheet
-row-sheet (Some xs) sheet = cond (nat_lt (length sheet) (length xs)) sheet (xs ++ drop (length xs) sheet)
+abbrev pub row_sheet : Option (List ℤ) → List ℤ → List ℤ
+row_sheet None sheet = sheet
+row_sheet (Some xs) sheet = cond (nat_lt (length sheet) (length xs)) sheet (xs ++ drop (length xs) sheet)
 
 -- an instrument can be charged: a stock by its tier, or an entitlement of a type
 abbrev pub covered : Meaning → ℕ → Option EntitlementType → Bool
-covered m s None = is_some (tier-of m s)
+covered m s None = is_some (tier_of m s)
 covered m s (Some t) = is_some (m.entitlement t s)

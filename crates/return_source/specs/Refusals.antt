@@ -4,6 +4,6 @@ use Rattle.return_source.specs.declared.terms.RowRefusal.{RowRefusal}
 use Rattle.return_source.specs.declared.terms.RowRefusal.TheVariants.{NoRow, ShortSheet}
 
 -- the number that a refusal carries; neither carries anything more
-abbrev pub refusal-number : RowRefusal → ℕ
-refusal-number NoRow = 34
-refusal-number ShortSheet = 35
+abbrev pub refusal_number : RowRefusal → ℕ
+refusal_number NoRow = 34
+refusal_number ShortSheet = 35

@@ -2,8 +2,8 @@
 // the source, and answers by what the source means alone. So sources of equal meaning count as one.
 ghost use Rattle.std.specs.Prelude.{◌≡◌, length};
 ghost use Rattle.std.specs.Option.{option_map};
-ghost use Rattle.return_source.specs.Meaning.{Meaning, tier-of, numbers_of, row-answer, row-sheet, covered};
-ghost use Rattle.return_source.specs.Lawful.{Lawful, Tiers-by-rows};
+ghost use Rattle.return_source.specs.Meaning.{Meaning, tier_of, numbers_of, row_answer, row_sheet, covered};
+ghost use Rattle.return_source.specs.Lawful.{Lawful, TiersByRows};
 
 use super::terms::{EntitlementType, Parameters, RowRefusal, ScenarioSet, Tier};
 
@@ -18,7 +18,7 @@ pub trait ReturnSource {
 
     // The tier of a stock, if it has one.
     fn tier(&self, stock: u32) -> Option<Tier>
-        ensures { result ≡ tier-of (meaning self.now) stock };
+        ensures { result ≡ tier_of (meaning self.now) stock };
 
     // The flat rate of a stock in ten-thousandths, if it has one.
     fn flat_rate(&self, stock: u32) -> Option<u32>
@@ -37,8 +37,8 @@ pub trait ReturnSource {
         stock: u32,
         sheet: &mut [i32],
     ) -> Result<usize, RowRefusal>
-        ensures answer { result ≡ row-answer ((meaning self.now).returns set stock) (length sheet.old) }
-        ensures written { sheet.new ≡ row-sheet ((meaning self.now).returns set stock) sheet.old };
+        ensures answer { result ≡ row_answer ((meaning self.now).returns set stock) (length sheet.old) }
+        ensures written { sheet.new ≡ row_sheet ((meaning self.now).returns set stock) sheet.old };
 
     // What each implementation owes: its meaning keeps the ranges and the rules on which rows stand together.
     ghost lawful: { (s : Self) → Lawful (meaning s) };
@@ -48,7 +48,7 @@ pub trait ReturnSource {
 // The tiers of every lawful source are told by its rows.
 pub fn covers<S: ReturnSource>(source: &S, stock: u32, kind: Option<EntitlementType>) -> bool
     ensures answer { result ≡ covered (S.meaning source.now) stock kind }
-    ensures tiers { Tiers-by-rows }
+    ensures tiers { TiersByRows }
 {
     match kind {
         None => source.tier(stock).is_some(),

@@ -1,6 +1,6 @@
 // The words of a return source.
 ghost use Rattle.std.specs.Prelude.{◌≡◌};
-ghost use Rattle.return_source.specs.Refusals.{refusal-number};
+ghost use Rattle.return_source.specs.Refusals.{refusal_number};
 
 // The two sets of scenarios.
 #[derive(Clone, Copy)]
@@ -66,7 +66,7 @@ pub enum RowRefusal {
 impl RowRefusal {
     // The number that the refusal carries.
     pub fn number(self) -> u32
-        ensures { result ≡ refusal-number self }
+        ensures { result ≡ refusal_number self }
     {
         match self {
             RowRefusal::NoRow => 34,

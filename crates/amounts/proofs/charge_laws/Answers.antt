@@ -1,5 +1,5 @@
-use Rattle.amounts.proofs.Charge.{sided-adds, greater-adds, due-adds}
+use Rattle.amounts.proofs.Charge.{sided_adds, greater_adds, due_adds}
 use Rattle.amounts.proofs.charge_laws.Goals as goal
 
 pub returns : goal.returns
-returns c = record { sided_adds = sided-adds; greater_side_adds = greater-adds; due_adds = due-adds }
+returns c = record { sided_adds = sided_adds; greater_side_adds = greater_adds; due_adds = due_adds }

@@ -1,6 +1,6 @@
 use Rattle.std.proofs.Common.{◌≡◌, ◌-◌, true, length, sym, ap, ◌∙◌, arith}
 use Rattle.std.proofs.lemmas.List.{drop_all, get_or_read}
-use Rattle.first_few.proofs.Inserts.{ranks, rank_is, all-drop-less}
+use Rattle.first_few.proofs.Inserts.{ranks, rank_is, all_drop_less}
 use Rattle.first_few.proofs.inserting.place_of.Goals as goal
 
 pub loop-i-init : goal.loop-i-init
@@ -9,7 +9,7 @@ loop-i-init g c = (omega arith, rw (drop_all (length c.args.part.now) c.args.par
 pub loop-i-preserved : goal.loop-i-preserved
 loop-i-preserved g c = (
   omega arith,
-  all-drop-less (λ y. g.T.Order.before c.args.x y ≡ true) c.args.part.now c.loop-i.i c.index-part-i.result (omega arith) c.loop-i.invariant.0 c.index-part-i.is
+  all_drop_less (λ y. g.T.Order.before c.args.x y ≡ true) c.args.part.now c.loop-i.i c.index-part-i.result (omega arith) c.loop-i.invariant.0 c.index-part-i.is
       (sym c.if-precedes.ensures) c.loop-i.invariant.1,
 )
 

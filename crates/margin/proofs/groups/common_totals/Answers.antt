@@ -6,8 +6,8 @@ use Rattle.ledger.specs.declared.terms.Kind.TheVariants.{Stock}
 use Rattle.margin_rules.specs.Portfolio.{scenarios, return_at, rounded_product, is_common}
 use Rattle.margin.specs.Visits.{stock_in}
 use Rattle.margin.specs.Groups.{stock_market, held_stocks}
-use Rattle.margin.proofs.Products.{with_returns, product-small, row-of}
-use Rattle.margin.proofs.Passes.{so_far-none, so_far-some, so_far-all, sum-end}
+use Rattle.margin.proofs.Products.{with_returns, product_small, row_of}
+use Rattle.margin.proofs.Passes.{so_far_none, so_far_some, so_far_all, sum_end}
 use Rattle.margin.proofs.groups.common_totals.Goals.{in-Some, in_default}
 use Rattle.margin.proofs.groups.common_totals.Goals as goal
 
@@ -22,7 +22,7 @@ pub add_returns-requires-clause-totals : goal.add_returns-requires-clause-totals
 add_returns-requires-clause-totals g c =
     let m = g.S.ReturnSource.meaning c.args.source.now in
     let n : length c.loop-i.totals ≡ (scenarios m c.args.set).count = c.loop-i.auto.totals ∙ c.fill.ensures.len ∙ c.requires.count in
-    so_far-all (stock_in Stock) (is_common m c.args.settings.now) (λ j x. rounded_product (stock_market c.args.slots.now x) (return_at (m.returns c.args.set x) j)) (scenarios m c.args.set).count c.args.slots.now c.loop-i.i c.loop-i.totals (2 ^ 62)
+    so_far_all (stock_in Stock) (is_common m c.args.settings.now) (λ j x. rounded_product (stock_market c.args.slots.now x) (return_at (m.returns c.args.set x) j)) (scenarios m c.args.set).count c.args.slots.now c.loop-i.i c.loop-i.totals (2 ^ 62)
     (omega (arith, c.requires.few)) n c.loop-i.invariant
 
 pub loop-i-preserved : goal.loop-i-preserved
@@ -43,10 +43,10 @@ loop-i-preserved g c =
           let v = a.market_of-value.result in
           let fits : FitsSigned w64 v = omega (arith, ints, a.market_of-value.ensures.bound) in
           let same : to_z w64 (of_z w64 v) ≡ mv x = to_z-of_z w64 v fits ∙ a.market_of-value.ensures.value in
-          so_far-some (stock_in Stock) p f k xs c.loop-i.i ts c.common_stock.result c.loop-i-test.true c.common_stock.ensures c.loop-i.invariant x c.match-common_stock.totals a.in-Some.is n
+          so_far_some (stock_in Stock) p f k xs c.loop-i.i ts c.common_stock.result c.loop-i-test.true c.common_stock.ensures c.loop-i.invariant x c.match-common_stock.totals a.in-Some.is n
           (a.totals-is ∙ a.add_returns.ensures ∙ ap (λ z. with_returns z (m.returns w x) ts) same)
-          (λ j l. product-small (mv x) (m.returns w x) k j (row-of m law w x) (c.requires.small x))
-      | in_default a ↦ rw a.totals-is (so_far-none (stock_in Stock) p f k xs c.loop-i.i ts c.common_stock.result c.loop-i-test.true c.common_stock.ensures c.loop-i.invariant a.in_default.is)
+          (λ j l. product_small (mv x) (m.returns w x) k j (row_of m law w x) (c.requires.small x))
+      | in_default a ↦ rw a.totals-is (so_far_none (stock_in Stock) p f k xs c.loop-i.i ts c.common_stock.result c.loop-i-test.true c.common_stock.ensures c.loop-i.invariant a.in_default.is)
     ]
 
 pub returns-clause-value : goal.returns-clause-value
@@ -57,11 +57,11 @@ returns-clause-value g c =
     let f : ℕ → ℕ → ℤ = λ j x. rounded_product (stock_market xs x) (return_at (m.returns c.args.set x) j) in
     let n : length c.loop-i.totals ≡ (scenarios m c.args.set).count = c.loop-i.auto.totals ∙ c.fill.ensures.len ∙ c.requires.count in
     fill_by_all (λ j. sum_of (λ x. when (p x) (f j x)) (held_stocks xs)) c.loop-i.totals (scenarios m c.args.set).count (pos 0) n
-    (λ j h. omega (arith, ints, c.loop-i.invariant.sums j h, sum-end (stock_in Stock) p (f j) xs c.loop-i.i c.loop-i-test.false))
+    (λ j h. omega (arith, ints, c.loop-i.invariant.sums j h, sum_end (stock_in Stock) p (f j) xs c.loop-i.i c.loop-i-test.false))
 
 pub returns-clause-bound : goal.returns-clause-bound
 returns-clause-bound g c =
     let m = g.S.ReturnSource.meaning c.args.source.now in
     let n : length c.loop-i.totals ≡ (scenarios m c.args.set).count = c.loop-i.auto.totals ∙ c.fill.ensures.len ∙ c.requires.count in
-    so_far-all (stock_in Stock) (is_common m c.args.settings.now) (λ j x. rounded_product (stock_market c.args.slots.now x) (return_at (m.returns c.args.set x) j)) (scenarios m c.args.set).count c.args.slots.now c.loop-i.i c.loop-i.totals 400000000000000
+    so_far_all (stock_in Stock) (is_common m c.args.settings.now) (λ j x. rounded_product (stock_market c.args.slots.now x) (return_at (m.returns c.args.set x) j)) (scenarios m c.args.set).count c.args.slots.now c.loop-i.i c.loop-i.totals 400000000000000
     (omega (arith, c.requires.few)) n c.loop-i.invariant

@@ -1,8 +1,8 @@
 use Rattle.std.proofs.Common.{◌≡◌, length, replicate, pos, ap, ◌∙◌, w64, rules}
 use Rattle.std.proofs.lemmas.Int.{to_z-of_z}
 use Rattle.margin_rules.specs.Portfolio.{scenarios, return_at, rounded_product}
-use Rattle.margin.proofs.Products.{with_returns, product-small, row-of}
-use Rattle.margin.proofs.Passes.{from_zero, figures-small}
+use Rattle.margin.proofs.Products.{with_returns, product_small, row_of}
+use Rattle.margin.proofs.Passes.{from_zero, figures_small}
 use Rattle.margin.proofs.groups.own_totals.Goals as goal
 
 pub returns-clause-value : goal.returns-clause-value
@@ -20,5 +20,5 @@ returns-clause-bound g c =
     let m = g.S.ReturnSource.meaning c.args.source.now in
     let law = g.met.S.ReturnSource.lawful c.args.source.now in
     let o = m.returns c.args.set c.args.stock in
-    figures-small (λ i. rounded_product c.args.value (return_at o i)) 80000000000 (scenarios m c.args.set).count c.add_returns.new.totals (returns-clause-value g c)
-    (λ j. product-small c.args.value o (scenarios m c.args.set).count j (row-of m law c.args.set c.args.stock) c.requires.small)
+    figures_small (λ i. rounded_product c.args.value (return_at o i)) 80000000000 (scenarios m c.args.set).count c.add_returns.new.totals (returns-clause-value g c)
+    (λ j. product_small c.args.value o (scenarios m c.args.set).count j (row_of m law c.args.set c.args.stock) c.requires.small)

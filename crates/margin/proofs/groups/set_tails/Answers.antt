@@ -3,7 +3,7 @@ use Rattle.std.proofs.lemmas.Int.{ints}
 use Rattle.amounts.specs.Tails.{tail_sum}
 use Rattle.margin_rules.specs.Portfolio.{scenarios, rounded_product, common_totals}
 use Rattle.margin.specs.Groups.{held_stocks, stock_market}
-use Rattle.margin.proofs.Held.{tails-are}
+use Rattle.margin.proofs.Held.{tails_are}
 use Rattle.margin.proofs.groups.set_tails.Goals as goal
 
 pub returns-clause-value : goal.returns-clause-value
@@ -16,4 +16,4 @@ returns-clause-value g c =
     let same : to_z w64 (of_z w64 (to_z w64 (of_z w64 r) +ℤ to_z w64 (of_z w64 o))) ≡ r +ℤ o = omega (arith, ints, c.tail_sum-common.ensures.bound, c.own_tails-own.ensures.bound) in
     let e : r ≡ tail_sum (scenarios m w).tail (common_totals rounded_product m c.args.settings.now (held_stocks xs) w (stock_market xs)) =
     c.tail_sum-common.ensures.value ∙ (λ i. tail_sum (c.requires.places i) (c.common_totals.ensures.value i)) in
-    same ∙ tails-are m c.args.settings.now xs c.requires.sound w r o e c.own_tails-own.ensures.value
+    same ∙ tails_are m c.args.settings.now xs c.requires.sound w r o e c.own_tails-own.ensures.value

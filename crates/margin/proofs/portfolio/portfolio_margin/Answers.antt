@@ -4,7 +4,7 @@ use Rattle.margin_rules.specs.Positions.{all_stocks}
 use Rattle.margin_rules.specs.Portfolio.{both_tails}
 use Rattle.margin.specs.Groups.{stock_market}
 use Rattle.margin.proofs.RoundSizes.{narrow}
-use Rattle.margin.proofs.Losses.{margin-is, rounded}
+use Rattle.margin.proofs.Losses.{margin_is, rounded}
 use Rattle.margin.proofs.portfolio.portfolio_margin.Goals as goal
 
 pub overflow_cast-result : goal.overflow_cast-result
@@ -19,7 +19,7 @@ returns-clause-value g c =
     let r = rounded (both_tails m) c.both_tails.result c.loss-loss.result c.floor-floor.result c.max.result c.round_off.result c.both_tails.ensures.value c.both_tails.ensures.some c.both_tails.ensures.few c.loss-loss.ensures.bound c.floor-floor.ensures.bound c.max.ensures.value c.round_off.ensures in
     let side : FitsSigned w64 c.side.result = omega (arith, ints, c.side.ensures.bound) in
     narrow c.round_off.result (omega (arith, r.1)) ∙ r.0
-    ∙ margin-is m c.args.settings.now all_stocks (stock_market c.args.slots.now) c.tails.result.historical c.tails.result.stress c.side.result c.tails.ensures.historical c.tails.ensures.stress c.side.ensures.value c.loss-loss.result c.floor-floor.result c.loss-loss.ensures.value
+    ∙ margin_is m c.args.settings.now all_stocks (stock_market c.args.slots.now) c.tails.result.historical c.tails.result.stress c.side.result c.tails.ensures.historical c.tails.ensures.stress c.side.ensures.value c.loss-loss.result c.floor-floor.result c.loss-loss.ensures.value
     (c.floor-floor.ensures.value ∙ ap (λ z. pos (c.args.settings.now.floor_rate * both_tails m) *ℤ z) (to_z-of_z w64 c.side.result side))
 
 pub returns-clause-bound : goal.returns-clause-bound

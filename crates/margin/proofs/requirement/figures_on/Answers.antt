@@ -3,7 +3,7 @@ use Rattle.amounts.specs.Rounding.{round_up_int}
 use Rattle.amounts.specs.Charges.{long, short}
 use Rattle.margin_rules.specs.Requirement.{less}
 use Rattle.margin.specs.Requirement.{holiday_on}
-use Rattle.margin.proofs.Steps.{through, through_small, figures-are}
+use Rattle.margin.proofs.Steps.{through, through_small, figures_are}
 use Rattle.margin.proofs.requirement.figures_on.Goals as goal
 
 pub returns : goal.returns
@@ -40,7 +40,7 @@ returns c =
     let tto = through to c.total-total.type_inv in
     ◌∙◌
     (λ i. record { portfolio = pf i; flat_rate = ff i; corporate_action = cf i; holiday = tho i; aggregate = tag i; rounded = tro i; favourable = tfa i; requirement = tre i; net = tne i; credited = tcd i; total = tto i; positions = c.args.positions })
-    (figures-are p c.args.settings.now v.portfolio v.flat_rate v.corporate_action c.args.mark c.args.positions ch ho gi ag ro fa re ne cr cd gb to
+    (figures_are p c.args.settings.now v.portfolio v.flat_rate v.corporate_action c.args.mark c.args.positions ch ho gi ag ro fa re ne cr cd gb to
     c.charged-charged.ensures.value
     (c.holiday_margin-holiday.ensures.value ∙ ap (holiday_on p) tch)
     c.given_inside-given.ensures.value

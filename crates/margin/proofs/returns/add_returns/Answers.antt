@@ -2,13 +2,13 @@ use Rattle.std.proofs.Common.{◌≡◌, take, ap, ◌∙◌, arith, w64}
 use Rattle.std.proofs.lemmas.Int.{to_z-of_z}
 use Rattle.margin_rules.specs.Portfolio.{scenarios}
 use Rattle.margin.specs.Adding.{with_products}
-use Rattle.margin.proofs.Products.{row_written, row-none, row-of, products_are, none-added}
+use Rattle.margin.proofs.Products.{row_written, row_none, row_of, products_are, none_added}
 use Rattle.margin.proofs.returns.add_returns.Goals as goal
 
 pub returns-in-Ok : goal.returns-in-Ok
 returns-in-Ok g c =
     let m = g.S.ReturnSource.meaning c.args.source.now in
-    let law = row-of m (g.met.S.ReturnSource.lawful c.args.source.now) c.args.set c.args.stock in
+    let law = row_of m (g.met.S.ReturnSource.lawful c.args.source.now) c.args.set c.args.stock in
     let o = m.returns c.args.set c.args.stock in
     let n = c.in-Ok.n in
     let w = row_written o c.args.row.now n c.in-Ok.ensures.answer in
@@ -18,6 +18,6 @@ returns-in-Ok g c =
 pub returns-in_default : goal.returns-in_default
 returns-in_default g c =
     let m = g.S.ReturnSource.meaning c.args.source.now in
-    let law = row-of m (g.met.S.ReturnSource.lawful c.args.source.now) c.args.set c.args.stock in
+    let law = row_of m (g.met.S.ReturnSource.lawful c.args.source.now) c.args.set c.args.stock in
     let o = m.returns c.args.set c.args.stock in
-    none-added c.args.value c.args.totals.now o (row-none o c.args.row.now (scenarios m c.args.set).count law (omega (arith, c.requires.room, c.requires.count)) (λ n q. c.in_default.not-Ok n (c.write_row.ensures.answer ∙ q)))
+    none_added c.args.value c.args.totals.now o (row_none o c.args.row.now (scenarios m c.args.set).count law (omega (arith, c.requires.room, c.requires.count)) (λ n q. c.in_default.not-Ok n (c.write_row.ensures.answer ∙ q)))

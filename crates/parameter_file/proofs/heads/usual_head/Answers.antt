@@ -1,5 +1,5 @@
 use Rattle.std.proofs.Common.{sym, ◌∙◌, arith}
-use Rattle.parameter_file.proofs.HeadLaws.{head-parts}
+use Rattle.parameter_file.proofs.HeadLaws.{head_parts}
 use Rattle.parameter_file.proofs.heads.usual_head.Goals as goal
 
 pub returns : goal.returns
@@ -11,7 +11,7 @@ returns c =
       c.in-Ok-number.kind,
       record {
         within = omega arith;
-        parts = head-parts c.args.text.now first second _ _ (sym c.new-cells.ensures ∙ c.in-Some.ensures) c.in-Some-next_cell.ensures (omega arith);
+        parts = head_parts c.args.text.now first second _ _ (sym c.new-cells.ensures ∙ c.in-Some.ensures) c.in-Some-next_cell.ensures (omega arith);
         stock = sym c.in-Ok.ensures.stock;
         number = sym c.in-Ok-number.ensures.number;
         kind = sym c.field_type.ensures;

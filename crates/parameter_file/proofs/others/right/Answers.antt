@@ -4,27 +4,27 @@ use Rattle.parameter_text.specs.Questions.{both, seen_as}
 use Rattle.return_source.specs.declared.terms.Entitlement.{Entitlement}
 use Rattle.return_source.specs.declared.terms.EntitlementType.{EntitlementType}
 use Rattle.file_rules.specs.Rows.{right}
-use Rattle.file_rules.specs.Judged.{type-cell, price-cell, percent-cell, priced}
+use Rattle.file_rules.specs.Judged.{type_cell, price_cell, percent_cell, priced}
 use Rattle.parameter_file.proofs.others.right.Goals as goal
 
-by-pairs : {X Y Z : Type 0} (f : X → Y → Z) (r : Result X Question) (s : Result Y Question) → both f r s ≡ seen_as (λ (p : X × Y). f p.0 p.1) (both (λ (x : X) (y : Y). (x, y)) r s)
-by-pairs f (Ok x) (Ok y) = refl
-by-pairs f (Ok x) (Err q) = refl
-by-pairs f (Err p) (Ok y) = refl
-by-pairs f (Err p) (Err q) = refl
+by_pairs : {X Y Z : Type 0} (f : X → Y → Z) (r : Result X Question) (s : Result Y Question) → both f r s ≡ seen_as (λ (p : X × Y). f p.0 p.1) (both (λ (x : X) (y : Y). (x, y)) r s)
+by_pairs f (Ok x) (Ok y) = refl
+by_pairs f (Ok x) (Err q) = refl
+by_pairs f (Err p) (Ok y) = refl
+by_pairs f (Err p) (Err q) = refl
 
-both-as : {X Y Z W : Type 0} (f : X → Y → W) (g : Z → Y) (r : Result X Question) (s : Result Z Question) → both f r (seen_as g s) ≡ both (λ (x : X) (z : Z). f x (g z)) r s
-both-as f g (Ok x) (Ok z) = refl
-both-as f g (Ok x) (Err q) = refl
-both-as f g (Err p) (Ok z) = refl
-both-as f g (Err p) (Err q) = refl
+both_as : {X Y Z W : Type 0} (f : X → Y → W) (g : Z → Y) (r : Result X Question) (s : Result Z Question) → both f r (seen_as g s) ≡ both (λ (x : X) (z : Z). f x (g z)) r s
+both_as f g (Ok x) (Ok z) = refl
+both_as f g (Ok x) (Err q) = refl
+both_as f g (Err p) (Ok z) = refl
+both_as f g (Err p) (Err q) = refl
 
 pub returns-in-Err : goal.returns-in-Err
 returns-in-Err c =
-    let a = type-cell c.args.kind.now in
-    let b = price-cell c.args.price.now in
-    let s = percent-cell c.args.short.now in
-    let l = percent-cell c.args.long.now in
+    let a = type_cell c.args.kind.now in
+    let b = price_cell c.args.price.now in
+    let s = percent_cell c.args.short.now in
+    let l = percent_cell c.args.long.now in
     let two : Result ℕ Question → Result ℕ Question → Result (ℕ × ℕ) Question = both (λ (x y : ℕ). (x, y)) in
     let three : Result ℕ Question → Result (ℕ × ℕ) Question → Result (ℕ × (ℕ × ℕ)) Question = both (λ (x : ℕ) (y : ℕ × ℕ). (x, y)) in
     let four : Result EntitlementType Question → Result (ℕ × (ℕ × ℕ)) Question → Result (EntitlementType × (ℕ × (ℕ × ℕ))) Question = both (λ (x : EntitlementType) (y : ℕ × (ℕ × ℕ)). (x, y)) in
@@ -33,4 +33,4 @@ returns-in-Err c =
     let e : Err c.in-Err.q ≡ four a (three b (two s l)) = c.in-Err.ensures ∙ ap (λ (x : Result EntitlementType Question). four x c.both-priced.result) c.entitlement_type.ensures ∙ ap (four a) all in
     let g : ℕ × (ℕ × ℕ) → Entitlement = λ p. priced p.0 p.1 in
     ap (seen_as (λ (p : EntitlementType × (ℕ × (ℕ × ℕ))). right p.0 (g p.1))) e
-    ∙ sym (ap (both right a) (by-pairs priced b (two s l)) ∙ both-as right g a (three b (two s l)) ∙ by-pairs (λ (x : EntitlementType) (z : ℕ × (ℕ × ℕ)). right x (g z)) a (three b (two s l)))
+    ∙ sym (ap (both right a) (by_pairs priced b (two s l)) ∙ both_as right g a (three b (two s l)) ∙ by_pairs (λ (x : EntitlementType) (z : ℕ × (ℕ × ℕ)). right x (g z)) a (three b (two s l)))

@@ -3,12 +3,12 @@ use Rattle.std.proofs.lemmas.List.{take_rest, length-drop}
 use Rattle.parameter_text.specs.Cuts.{line_of}
 use Rattle.file_rules.specs.Rows.{Row}
 use Rattle.file_rules.specs.Judged.{next_row}
-use Rattle.parameter_file.specs.Reading.{Row-taken, Taken-row}
-use Rattle.parameter_file.proofs.ReadingLaws.{so-far-none, row-fault, further, so_far_more, rows-done}
+use Rattle.parameter_file.specs.Reading.{RowTaken, TakenRow}
+use Rattle.parameter_file.proofs.ReadingLaws.{so_far_none, row_fault, further, so_far_more, rows_done}
 use Rattle.parameter_file.proofs.reading.take_rows.Goals as goal
 
 pub loop-at-init : goal.loop-at-init
-loop-at-init c = (so-far-none c.args.p.now c.args.text.now (vec_items c.args.kept.now) c.args.table.now c.requires.none c.requires.blank, omega arith)
+loop-at-init c = (so_far_none c.args.p.now c.args.text.now (vec_items c.args.kept.now) c.args.table.now c.requires.none c.requires.blank, omega arith)
 
 pub take_row-requires : goal.take_row-requires
 take_row-requires c =
@@ -20,10 +20,10 @@ take_row-requires c =
     }
 
 -- the row that was taken
-took : (c : goal.In-Ok) → (r : Row) × Row-taken c.args.p.now (drop c.loop-at.at c.args.text.now) (vec_items c.loop-at.kept) (vec_items c.take_row.new.kept) c.take_row.new.table c.loop-at.invariant.0.0 c.in-Ok.next r
+took : (c : goal.In-Ok) → (r : Row) × RowTaken c.args.p.now (drop c.loop-at.at c.args.text.now) (vec_items c.loop-at.kept) (vec_items c.take_row.new.kept) c.take_row.new.table c.loop-at.invariant.0.0 c.in-Ok.next r
 took c =
     let s = c.loop-at.invariant.0 in
-    subst (λ (l : List ℕ). Taken-row c.args.p.now l (vec_items c.loop-at.kept) (vec_items c.take_row.new.kept) c.take_row.new.table s.0 (Ok c.in-Ok.next)) (take_rest c.args.text.now c.loop-at.at) (c.in-Ok.ensures.row s.0 s.1.number s.1.holds)
+    subst (λ (l : List ℕ). TakenRow c.args.p.now l (vec_items c.loop-at.kept) (vec_items c.take_row.new.kept) c.take_row.new.table s.0 (Ok c.in-Ok.next)) (take_rest c.args.text.now c.loop-at.at) (c.in-Ok.ensures.row s.0 s.1.number s.1.holds)
 
 step : (c : goal.In-Ok) → (1 ≤ c.in-Ok.next) × (c.loop-at.at + c.in-Ok.next ≤ length c.args.text.now)
 step c =
@@ -49,7 +49,7 @@ returns-in-Err c =
     let s = c.loop-at.invariant.0 in
     let p = c.args.p.now in
     let e : next_row p s.0 (line_of (drop c.loop-at.at c.args.text.now)) ≡ Err c.in-Err.question = ap (λ (l : List ℕ). next_row p s.0 (line_of l)) (sym (take_rest c.args.text.now c.loop-at.at)) ∙ c.in-Err.ensures.row s.0 s.1.number s.1.holds in
-    record { rows = row-fault p c.args.text.now c.loop-at.at c.loop-at.line (vec_items c.loop-at.kept) c.loop-at.table c.loop-at-test.true s c.in-Err.question e; room = omega (arith, c.in-Err.ensures.room, c.loop-at.invariant.1) }
+    record { rows = row_fault p c.args.text.now c.loop-at.at c.loop-at.line (vec_items c.loop-at.kept) c.loop-at.table c.loop-at-test.true s c.in-Err.question e; room = omega (arith, c.in-Err.ensures.room, c.loop-at.invariant.1) }
 
 pub returns : goal.returns
-returns c = record { rows = rows-done c.args.p.now c.args.text.now c.loop-at.at c.loop-at.line (vec_items c.loop-at.kept) c.loop-at.table c.loop-at-test.false c.loop-at.invariant.0; room = c.loop-at.invariant.1 }
+returns c = record { rows = rows_done c.args.p.now c.args.text.now c.loop-at.at c.loop-at.line (vec_items c.loop-at.kept) c.loop-at.table c.loop-at-test.false c.loop-at.invariant.0; room = c.loop-at.invariant.1 }

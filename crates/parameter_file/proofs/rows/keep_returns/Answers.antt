@@ -2,8 +2,8 @@ use Rattle.std.proofs.Common.{◌≡◌, ℕ, ◌+◌, ◌-◌, true, List, ◌+
 use Rattle.std.proofs.lemmas.List.{take_at, take_all, length-take-le, length-drop}
 use Rattle.std.proofs.lemmas.Bool.{cond-true}
 use Rattle.parameter_text.specs.Cuts.{cells, line_of}
-use Rattle.parameter_rows.specs.Returns.{returns-cells, Agrees}
-use Rattle.parameter_file.proofs.KeptLaws.{kept-after, kept-returns}
+use Rattle.parameter_rows.specs.Returns.{returns_cells, Agrees}
+use Rattle.parameter_file.proofs.KeptLaws.{kept_after, kept_returns}
 use Rattle.parameter_file.proofs.rows.keep_returns.Goals as goal
 
 pub returns : goal.returns
@@ -22,8 +22,8 @@ returns c =
     let front : take start S ≡ K = ap (take start) items ∙ take_at K _ start len in
     let part : length (take (length S - start) (drop start S)) ≡ n = length-take-le (length S - start) (drop start S) (omega (arith, length-drop start S)) ∙ omega (arith, size) in
     let row : length R ≡ n = omega (arith, part) in
-    let judged : Agrees (returns-cells n (cells (line_of c.args.text.now))) c.returns_row.result R = subst (λ (k : ℕ). Agrees (returns-cells k (cells (line_of c.args.text.now))) c.returns_row.result R) part c.returns_row.ensures.judged in
+    let judged : Agrees (returns_cells n (cells (line_of c.args.text.now))) c.returns_row.result R = subst (λ (k : ℕ). Agrees (returns_cells k (cells (line_of c.args.text.now))) c.returns_row.result R) part c.returns_row.ensures.judged in
     record {
-      kept = kept-returns n c.args.text.now K _ R c.returns_row.result c.requires.some judged c.returns_row.ensures.next (kept-after K R _ _ S _ start n grown len front row);
+      kept = kept_returns n c.args.text.now K _ R c.returns_row.result c.requires.some judged c.returns_row.ensures.next (kept_after K R _ _ S _ start n grown len front row);
       room = c.resize.ensures.capacity;
     }

@@ -1,7 +1,7 @@
 use Rattle.std.proofs.Common.{ap, ◌∙◌}
 use Rattle.std.proofs.lemmas.Result.{err_from_is_err_and}
 use Rattle.parameter_text.specs.Left.{lines_left}
-use Rattle.parameter_heading.specs.Lines.{at-line}
+use Rattle.parameter_heading.specs.Lines.{at_line}
 use Rattle.parameter_heading.proofs.LineSteps.{faulty, taken}
 use Rattle.parameter_heading.proofs.named.next_reading.Goals as goal
 
@@ -13,4 +13,4 @@ returns-in_err-value g c =
 pub returns : goal.returns
 returns g c =
     let k = c.args.number in
-    taken k c.args.name.now (g.R.Reading.judged c.args.reading.now) c.args.lines.now c.next_value.new.lines c.in_ok-value.value.now c.at_line.result c.in_ok-value.ensures (c.at_line.ensures ∙ ap (at-line k) c.read.ensures)
+    taken k c.args.name.now (g.R.Reading.judged c.args.reading.now) c.args.lines.now c.next_value.new.lines c.in_ok-value.value.now c.at_line.result c.in_ok-value.ensures (c.at_line.ensures ∙ ap (at_line k) c.read.ensures)

@@ -3,7 +3,7 @@ use Rattle.std.proofs.lemmas.List.{set-get_or}
 use Rattle.std.proofs.lemmas.Int.{to_z-of_z}
 use Rattle.parameter_text.specs.declared.terms.Question.{Question}
 use Rattle.parameter_text.specs.Left.{cells_left}
-use Rattle.parameter_rows.proofs.Verdicts.{Judged-to, fewer, more-ok, more-err, needed-all}
+use Rattle.parameter_rows.proofs.Verdicts.{JudgedTo, fewer, more_ok, more_err, needed_all}
 use Rattle.parameter_rows.proofs.judged.needed.Goals as goal
 use Rattle.parameter_rows.proofs.judged.needed.Goals.{in-Ok, in-Err}
 
@@ -21,16 +21,16 @@ loop-value-preserved c =
     elim m.branch [
       | in-Ok w ↦
           let f : SFits w32 w.in-Ok.v = search rules in
-          let s = more-ok L left left' l.value-index l.failed l.row l.invariant c.in_ok-cell.cell.now w.in-Ok.v (search rules) e w.in-Ok.ensures in
+          let s = more_ok L left left' l.value-index l.failed l.row l.invariant c.in_ok-cell.cell.now w.in-Ok.v (search rules) e w.in-Ok.ensures in
           let row : m.row ≡ set l.row l.value-index w.in-Ok.v = w.row-is ∙ ap (set l.row l.value-index) (to_z-of_z w32 w.in-Ok.v f) in
-          let t : Judged-to L left' (l.value-index + 1) l.failed (take (l.value-index + 1) m.row) = subst (λ (r : List ℤ). Judged-to L left' (l.value-index + 1) l.failed (take (l.value-index + 1) r)) (sym row) s in
-          subst (λ (o : Option Question). Judged-to L left' (l.value-index + 1) o (take (l.value-index + 1) m.row)) (sym w.failed-is) t
+          let t : JudgedTo L left' (l.value-index + 1) l.failed (take (l.value-index + 1) m.row) = subst (λ (r : List ℤ). JudgedTo L left' (l.value-index + 1) l.failed (take (l.value-index + 1) r)) (sym row) s in
+          subst (λ (o : Option Question). JudgedTo L left' (l.value-index + 1) o (take (l.value-index + 1) m.row)) (sym w.failed-is) t
       | in-Err w ↦
-          let s = more-err L left left' l.value-index l.failed l.row l.invariant c.in_ok-cell.cell.now w.in-Err.q e w.in-Err.ensures in
+          let s = more_err L left left' l.value-index l.failed l.row l.invariant c.in_ok-cell.cell.now w.in-Err.q e w.in-Err.ensures in
           let failed = w.failed-is ∙ ap Some w.first_failed.ensures in
-          let t : Judged-to L left' (l.value-index + 1) m.failed (take (l.value-index + 1) l.row) = subst (λ (o : Option Question). Judged-to L left' (l.value-index + 1) o (take (l.value-index + 1) l.row)) (sym failed) s in
-          subst (λ (r : List ℤ). Judged-to L left' (l.value-index + 1) m.failed (take (l.value-index + 1) r)) (sym (w.row-is ∙ set-get_or l.row l.value-index (pos 0))) t
+          let t : JudgedTo L left' (l.value-index + 1) m.failed (take (l.value-index + 1) l.row) = subst (λ (o : Option Question). JudgedTo L left' (l.value-index + 1) o (take (l.value-index + 1) l.row)) (sym failed) s in
+          subst (λ (r : List ℤ). JudgedTo L left' (l.value-index + 1) m.failed (take (l.value-index + 1) r)) (sym (w.row-is ∙ set-get_or l.row l.value-index (pos 0))) t
     ]
 
 pub returns : goal.returns
-returns c = needed-all _ _ c.loop-value.value-index c.loop-value.failed c.loop-value.row (omega arith) c.loop-value.invariant
+returns c = needed_all _ _ c.loop-value.value-index c.loop-value.failed c.loop-value.row (omega arith) c.loop-value.invariant

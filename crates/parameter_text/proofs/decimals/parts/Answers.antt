@@ -3,7 +3,7 @@ use Rattle.std.specs.List.{AllByRecursion as All}
 use Rattle.std.proofs.lemmas.Bool.{and_parts, leb-true}
 use Rattle.parameter_text.specs.Digits.{Digit}
 use Rattle.parameter_text.specs.Decimals.{formed}
-use Rattle.parameter_text.proofs.DecimalLaws.{point-digits}
+use Rattle.parameter_text.proofs.DecimalLaws.{point_digits}
 use Rattle.parameter_text.proofs.decimals.parts.Goals as goal
 
 pub size_of-requires : goal.size_of-requires
@@ -15,6 +15,6 @@ size_of-requires c =
     record {
       whole = c.requires;
       four = leb-true (length w) 4 q2.0;
-      fraction = subst (All Digit) (sym c.after_point-fraction.ensures) (point-digits c.args.rest.now q2.1).0;
+      fraction = subst (All Digit) (sym c.after_point-fraction.ensures) (point_digits c.args.rest.now q2.1).0;
       places = c.count-places.ensures.few;
     }

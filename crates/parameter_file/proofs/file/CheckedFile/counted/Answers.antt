@@ -3,8 +3,8 @@ use Rattle.return_source.specs.declared.terms.Tier.TheVariants.{Portfolio, Flat}
 use Rattle.parameter_file.specs.declared.terms.StockRows.{StockRows}
 use Rattle.parameter_file.specs.Table.{no_rows}
 use Rattle.file_rules.specs.Rows.{meaning}
-use Rattle.parameter_file.specs.Checked.{file-of, tier-count, tally, yes, in-tier, tier-in, rights-in}
-use Rattle.parameter_file.proofs.SummaryLaws.{tiers-counted, rights-counted, verdict-is}
+use Rattle.parameter_file.specs.Checked.{file_of, tier_count, tally, yes, in_tier, tier_in, rights_in}
+use Rattle.parameter_file.proofs.SummaryLaws.{tiers_counted, rights_counted, verdict_is}
 use Rattle.parameter_file.proofs.file.CheckedFile.counted.Goals as goal
 
 pub returns : goal.returns
@@ -16,12 +16,12 @@ returns c =
     let h = x.heading in
     let e = c.counts-portfolio_stocks.ensures in
     let same = c.as_slice.ensures.value in
-    let a = e.portfolio ∙ ap (λ (l : List StockRows). tally (λ s. yes (in-tier Portfolio (tier-in (get_or l s no_rows)))) (length l)) same ∙ tiers-counted bytes K T h x.passed x.heads x.size x.index Portfolio in
-    let b = e.flat ∙ ap (λ (l : List StockRows). tally (λ s. yes (in-tier Flat (tier-in (get_or l s no_rows)))) (length l)) same ∙ tiers-counted bytes K T h x.passed x.heads x.size x.index Flat in
-    let d = e.rights ∙ ap (λ (l : List StockRows). tally (λ s. rights-in (get_or l s no_rows)) (length l)) same ∙ rights-counted bytes K T h x.passed x.heads x.size x.index in
+    let a = e.portfolio ∙ ap (λ (l : List StockRows). tally (λ s. yes (in_tier Portfolio (tier_in (get_or l s no_rows)))) (length l)) same ∙ tiers_counted bytes K T h x.passed x.heads x.size x.index Portfolio in
+    let b = e.flat ∙ ap (λ (l : List StockRows). tally (λ s. yes (in_tier Flat (tier_in (get_or l s no_rows)))) (length l)) same ∙ tiers_counted bytes K T h x.passed x.heads x.size x.index Flat in
+    let d = e.rights ∙ ap (λ (l : List StockRows). tally (λ s. rights_in (get_or l s no_rows)) (length l)) same ∙ rights_counted bytes K T h x.passed x.heads x.size x.index in
     record {
-      file = verdict-is bytes h x.passed x.heads;
+      file = verdict_is bytes h x.passed x.heads;
       summary = ap (λ (n : ℕ). record { heading = h; portfolio_stocks = n; flat_stocks = c.counts-portfolio_stocks.result.1; entitlements = c.counts-portfolio_stocks.result.2 }) a
-          ∙ ap (λ (n : ℕ). record { heading = h; portfolio_stocks = tier-count (meaning (file-of bytes h)) Portfolio; flat_stocks = n; entitlements = c.counts-portfolio_stocks.result.2 }) b
-          ∙ ap (λ (n : ℕ). record { heading = h; portfolio_stocks = tier-count (meaning (file-of bytes h)) Portfolio; flat_stocks = tier-count (meaning (file-of bytes h)) Flat; entitlements = n }) d;
+          ∙ ap (λ (n : ℕ). record { heading = h; portfolio_stocks = tier_count (meaning (file_of bytes h)) Portfolio; flat_stocks = n; entitlements = c.counts-portfolio_stocks.result.2 }) b
+          ∙ ap (λ (n : ℕ). record { heading = h; portfolio_stocks = tier_count (meaning (file_of bytes h)) Portfolio; flat_stocks = tier_count (meaning (file_of bytes h)) Flat; entitlements = n }) d;
     }

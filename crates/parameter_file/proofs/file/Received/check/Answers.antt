@@ -1,5 +1,5 @@
 use Rattle.std.proofs.Common.{vec_items}
-use Rattle.parameter_file.proofs.JudgingLaws.{heading-is, index_is}
+use Rattle.parameter_file.proofs.JudgingLaws.{heading_is, index_is}
 use Rattle.parameter_file.proofs.file.Received.check.Goals as goal
 
 pub invariant_of-self : goal.invariant_of-self
@@ -11,7 +11,7 @@ invariant_of-self c =
     record {
       room = c.in-Ok.ensures.room;
       places = c.in-Ok.ensures.places;
-      heads = λ _. heading-is bytes kept table c.in-Ok.heading j;
+      heads = λ _. heading_is bytes kept table c.in-Ok.heading j;
       size = λ _. j.1;
       index = λ _. index_is bytes kept table c.in-Ok.heading j;
     }

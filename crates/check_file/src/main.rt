@@ -32,7 +32,7 @@ prints    checked
           and so on; a weight of 2 on line 2 would give refused,6,2";
 
 // A check takes files of up to 64 MiB, so one byte more shows that a file is longer.
-const MOST_BYTES: usize = 67_108_864 + 1;
+const MOST_BYTES: u64 = 67_108_864 + 1;
 
 fn main(rt: HostRuntime) -> ExitCode {
     match run(&rt) {

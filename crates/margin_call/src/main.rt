@@ -57,10 +57,10 @@ prints    portfolio,3100
           and so on, down to the list of holdings; a multiplier of 5.00 would give refused,12";
 
 // A parameter file has up to 64 MiB, so one byte more shows that a file is longer.
-const MOST_FILE_BYTES: usize = 67_108_864 + 1;
+const MOST_FILE_BYTES: u64 = 67_108_864 + 1;
 
 // Nine lines within their form are far shorter, so that a longer file has its first fault within this front.
-const MOST_SETTINGS_BYTES: usize = 65_536;
+const MOST_SETTINGS_BYTES: u64 = 65_536;
 
 // A table of one place too many is refused like every longer one, and takes no more memory than this.
 const PLACES_TOO_MANY: usize = 4096 + 1;
@@ -135,7 +135,7 @@ fn journals(rt: &HostRuntime, names: Journals<'_>) -> Result<Vec<Vec<u8>>, NotDo
 }
 
 fn journal(rt: &HostRuntime, path: &str) -> Result<Vec<u8>, NotDone> {
-    let bytes = bytes_of(rt, path, usize::MAX)?;
+    let bytes = bytes_of(rt, path, u64::MAX)?;
     match check_journal(bytes.as_slice()) {
         Ok(_) => Ok(bytes),
         Err(fault) => {
@@ -372,8 +372,8 @@ fn done_with(printed: Result<(), NotDone>) -> NotDone {
     }
 }
 
-// The bytes of a file, or at least so many of the first ones.
-fn bytes_of(rt: &HostRuntime, path: &str, most: usize) -> Result<Vec<u8>, NotDone> {
+// The bytes of a file, or so many of the first ones.
+fn bytes_of(rt: &HostRuntime, path: &str, most: u64) -> Result<Vec<u8>, NotDone> {
     match front_of(rt, path, most) {
         Ok(bytes) => Ok(bytes),
         Err(error) => Err(not_done(rt, format_args!("{path}: {error}"))),

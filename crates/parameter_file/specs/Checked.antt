@@ -1,5 +1,5 @@
 -- What a received file is found to lay down, and what a checked file keeps of it. Assumes nothing.
-use Rattle.std.specs.Prelude.{◌≡◌, ℕ, zero, suc, ◌+◌, ◌<◌, ◌≤◌, Bool, true, false, cond, List, [], length, take, drop, ℤ, is_some, Some, None, Ok, Err, Option, Result, slice_index_or}
+use Rattle.std.specs.Prelude.{◌≡◌, ℕ, zero, suc, ◌+◌, ◌<◌, ◌≤◌, Bool, true, false, cond, List, [], length, take, drop, ℤ, is_some, is_ok, Some, None, Ok, Err, Option, Result, slice_index_or}
 use Rattle.return_source.specs.declared.terms.Tier.{Tier}
 use Rattle.return_source.specs.declared.terms.Tier.TheVariants.{Portfolio, Flat}
 use Rattle.return_source.specs.declared.terms.EntitlementType.TheVariants.{Dsp, Sri, Div}
@@ -19,6 +19,10 @@ use Rattle.parameter_file.specs.Tests.{says}
 abbrev pub check_answer : Result File Fault → Result (Unit {0}) Fault
 check_answer (Ok f) = Ok tt
 check_answer (Err e) = Err e
+
+-- Does a file pass?
+abbrev pub passes : List ℕ → Bool
+passes bytes = is_ok (verdict bytes)
 
 -- the rows that a file lays down: none where it fails
 abbrev pub rows_in : Result File Fault → List Row

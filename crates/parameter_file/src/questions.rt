@@ -13,7 +13,7 @@ use return_source::{Entitlement, EntitlementType, Parameters, ScenarioSet, Tier}
 
 impl<'a> CheckedFile<'a> {
     // What is kept of a stock.
-    pub(crate) fn rows_of(&self, stock: u32) -> StockRows
+    fn rows_of(&self, stock: u32) -> StockRows
         ensures { Says self.now.heading.parameters self.now.kept.items (rows_in (verdict self.now.bytes.now)) stock result }
     {
         let place = stock as usize;
@@ -24,8 +24,22 @@ impl<'a> CheckedFile<'a> {
         }
     }
 
-    // The entitlement of a stock and type, if there is one.
-    pub(crate) fn right_of(&self, kind: EntitlementType, stock: u32) -> Option<Entitlement>
+    // The parameters.
+    pub fn parameters(&self) -> Parameters
+        ensures { result ≡ (meaning_of self.now.bytes.now self.now.heading).parameters }
+    {
+        let all = self.heading;
+        all.parameters
+    }
+
+    // The flat rate of a stock, in ten-thousandths, if it has one.
+    pub fn flat_rate(&self, stock: u32) -> Option<u32>
+        ensures { result ≡ (meaning_of self.now.bytes.now self.now.heading).rate stock }
+    {
+        self.rows_of(stock).rate
+    }
+
+    fn right_of(&self, kind: EntitlementType, stock: u32) -> Option<Entitlement>
         ensures { result ≡ (meaning_of self.now.bytes.now self.now.heading).entitlement kind stock }
     {
         let rows = self.rows_of(stock);
@@ -34,6 +48,13 @@ impl<'a> CheckedFile<'a> {
             EntitlementType::Sri => rows.sri,
             EntitlementType::Div => rows.div,
         }
+    }
+
+    // The entitlement of a stock and type, if there is one.
+    pub fn entitlement(&self, kind: EntitlementType, stock: u32) -> Option<Entitlement>
+        ensures { result ≡ (meaning_of self.now.bytes.now self.now.heading).entitlement kind stock }
+    {
+        self.right_of(kind, stock)
     }
 
     // Where the returns of a stock start, and how many there are.
@@ -50,8 +71,7 @@ impl<'a> CheckedFile<'a> {
         }
     }
 
-    // The returns of a stock in a set of scenarios, in hundred-millionths, if it has them.
-    pub(crate) fn row_of(&self, set: ScenarioSet, stock: u32) -> Option<&[i32]>
+    fn row_of(&self, set: ScenarioSet, stock: u32) -> Option<&[i32]>
         ensures { option_map (λ x. x.now) result ≡ (meaning_of self.now.bytes.now self.now.heading).returns set stock }
     {
         let Some((start, count)) = self.place_of(set, stock) else {
@@ -60,6 +80,25 @@ impl<'a> CheckedFile<'a> {
         let kept = self.kept.as_slice();
         let end = start + count;
         Some(&kept[start..end])
+    }
+
+    // The returns of a stock in a set of scenarios, in hundred-millionths, if it has them.
+    pub fn returns(&self, set: ScenarioSet, stock: u32) -> Option<&[i32]>
+        ensures { option_map (λ x. x.now) result ≡ (meaning_of self.now.bytes.now self.now.heading).returns set stock }
+    {
+        self.row_of(set, stock)
+    }
+
+    // The tier of a stock, if it has one.
+    pub fn tier(&self, stock: u32) -> Option<Tier>
+        ensures { result ≡ tier_of (meaning_of self.now.bytes.now self.now.heading) stock }
+    {
+        let rows = self.rows_of(stock);
+        tier_by(
+            rows.historical.is_some(),
+            rows.stress.is_some(),
+            rows.rate.is_some(),
+        )
     }
 }
 

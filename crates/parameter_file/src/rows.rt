@@ -1,7 +1,7 @@
 // One row from the front of a text.
 ghost use Rattle.std.specs.Prelude.{◌≡◌, ◌+◌, ◌≤◌, [], length, vec_len, vec_capacity, MatchResult};
 ghost use Rattle.std.specs.List.{AllByRecursion};
-ghost use Rattle.parameter_text.specs.Cuts.{cells, line_of, after_line};
+ghost use Rattle.parameter_text.specs.Cuts.{cells, line_of};
 ghost use Rattle.parameter_rows.specs.Returns.{returns_cells};
 ghost use Rattle.return_source.specs.Lawful.{scenario_count};
 ghost use Rattle.file_rules.specs.Judged.{content};

@@ -1,17 +1,10 @@
 // What the programs share at their edges: the words that they are given, the files that they read, and what they say.
 #![tactic(auto)]
 
-ghost use Rattle.std.specs.Prelude.{◌≡◌, ◌+◌, ◌≤◌, vec_len, MatchResult, OnOk};
-ghost use Rattle.std.specs.Io.{StartsWith, appended_bytes};
-ghost use Rattle.std.specs.Io.KnownBytes.{Consumes};
-
 use std::fmt::Display;
 use std::fs::File;
 use std::io::Read;
 use std::{env, io};
-
-// A file is read in parts of this size: large enough that the system is seldom asked.
-const PART_BYTES: usize = 262_144;
 
 // The job is not done; what there is to say of it has been said.
 #[derive(Drop)]
@@ -23,32 +16,21 @@ pub fn arguments(rt: &HostRuntime) -> io::Result<Vec<String>> {
     Ok(words)
 }
 
-// The bytes of a file: all of them, or at least so many of the first ones.
-pub fn front_of(rt: &HostRuntime, path: &str, most: usize) -> io::Result<Vec<u8>> {
-    let mut file = File::open(rt, path)?;
-    let length = file.metadata()?.len().min(most as u64) as usize;
+// The bytes of a file: all of them, or so many of the first ones.
+pub fn front_of(rt: &HostRuntime, path: &str, most: u64) -> io::Result<Vec<u8>> {
+    let file = File::open(rt, path)?;
     let mut bytes = Vec::new(rt.alloc());
-    bytes.reserve(length.saturating_add(PART_BYTES))?;
-    while bytes.len() < most {
-        if read_part(&mut file, &mut bytes)? == 0 {
-            break;
-        }
-    }
+    bytes.reserve(length_of(&file).min(most) as usize)?;
+    let _ = file.take(most).read_to_end(&mut bytes)?;
     Ok(bytes)
 }
 
-// Reads one part more, and answers its length, which is 0 at the end of the file.
-fn read_part<R: Read>(file: &mut R, bytes: &mut Vec<u8>) -> io::Result<usize>
-    ensures length { MatchResult result (λ n. vec_len bytes.new ≡ vec_len bytes.old + n) (λ _. vec_len bytes.old ≤ vec_len bytes.new) }
-    ensures kept { StartsWith bytes.new.items bytes.old.items }
-    ensures read { OnOk result (Consumes (R.remaining file.old) (R.remaining file.new) (appended_bytes bytes.old.items bytes.new.items)) }
-{
-    let start = bytes.len();
-    bytes.resize(start + PART_BYTES, 0)?;
-    let places = bytes.as_mut_slice();
-    let n = file.read(&mut places[start..])?;
-    bytes.truncate(start + n);
-    Ok(n)
+// How long a file is said to be, to have memory at once for it: 0 where the system does not say.
+fn length_of(file: &File) -> u64 {
+    match file.metadata() {
+        Ok(said) => said.len(),
+        Err(_) => 0,
+    }
 }
 
 // Prints an answer, or says why it cannot be printed.

@@ -20,12 +20,12 @@ pub fn arguments(rt: &HostRuntime) -> io::Result<Vec<String>> {
 pub fn front_of(rt: &HostRuntime, path: &str, most: u64) -> io::Result<Vec<u8>> {
     let file = File::open(rt, path)?;
     let mut bytes = Vec::new(rt.alloc());
-    bytes.reserve(length_of(&file).min(most) as usize)?;
+    let _ = bytes.reserve(length_of(&file).min(most) as usize);
     let _ = file.take(most).read_to_end(&mut bytes)?;
     Ok(bytes)
 }
 
-// How long a file is said to be, to have memory at once for it: 0 where the system does not say.
+// How long a file is said to be, to have memory at once for it if there is so much: 0 where the system does not say.
 fn length_of(file: &File) -> u64 {
     match file.metadata() {
         Ok(said) => said.len(),

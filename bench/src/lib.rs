@@ -4,6 +4,7 @@
 //! The rules it follows are in `docs/`: `RULES.md` for the check, `SOURCES.md`, `ACCOUNT.md` and `MARGIN.md` for the engine,
 //! `PROGRAMS.md` for both command lines. Nothing here shares code with the proved crates.
 
+pub mod arguments;
 pub mod cases;
 pub mod check;
 pub mod days;

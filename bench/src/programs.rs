@@ -5,14 +5,11 @@ use std::io;
 use std::path::{Path, PathBuf};
 use std::process::{Command, Stdio};
 
-/// The proved program, where `rt run` leaves it.
-pub fn proved() -> PathBuf {
-    Path::new(env!("CARGO_MANIFEST_DIR")).join("../crates/check_file/out/check_file")
-}
-
-/// The second implementation, which cargo leaves beside the running program.
-pub fn second() -> io::Result<PathBuf> {
-    Ok(std::env::current_exe()?.with_file_name("check_rust"))
+/// The proved program of a crate, where `rt run` leaves it, and the second implementation, which cargo leaves beside the running
+/// program.
+pub fn usual(proved: &str, second: &str) -> io::Result<[PathBuf; 2]> {
+    let crates = Path::new(env!("CARGO_MANIFEST_DIR")).join("../crates");
+    Ok([crates.join(proved).join("out").join(proved), std::env::current_exe()?.with_file_name(second)])
 }
 
 /// What a run wrote to standard output, and its exit status where it ended by itself.

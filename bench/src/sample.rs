@@ -4,7 +4,9 @@
 
 use crate::check::{HEADING_NAMES, MAX_STOCK};
 use crate::random::Random;
-use std::io::{Result, Write};
+use std::fs::{self, File};
+use std::io::{BufWriter, Result, Write};
+use std::path::{Path, PathBuf};
 
 /// How large the file is to be, and from what seed.
 #[derive(Clone, Copy, Debug)]
@@ -162,6 +164,26 @@ fn write_entitlements(stocks: &[u32], random: &mut Random, out: &mut impl Write)
         )?;
     }
     Ok(())
+}
+
+/// Where the comparisons keep what they write once: below `bench/target/`.
+pub fn folder() -> Result<PathBuf> {
+    let folder = Path::new(env!("CARGO_MANIFEST_DIR")).join("target");
+    fs::create_dir_all(&folder)?;
+    Ok(folder)
+}
+
+/// The file in the published sample's shape, written on the first call.
+pub fn published_file() -> Result<PathBuf> {
+    let path = folder()?.join("rpf01.csv");
+    if !path.is_file() {
+        let unfinished = path.with_extension("unfinished");
+        let mut out = BufWriter::new(File::create(&unfinished)?);
+        write(Shape::PUBLISHED, &mut out)?;
+        out.flush()?;
+        fs::rename(&unfinished, &path)?;
+    }
+    Ok(path)
 }
 
 #[cfg(test)]

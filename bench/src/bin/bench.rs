@@ -1,9 +1,10 @@
 //! Times the proved program beside the second implementation, and looks at the memory of each.
 
-use bench::programs::{ask, proved, second, Answer};
-use bench::sample::{self, Shape};
+use bench::arguments::Arguments;
+use bench::programs::{ask, Answer};
+use bench::sample::published_file;
 use std::fs::{self, File};
-use std::io::{self, BufWriter, Read, Write};
+use std::io::{self, Read};
 use std::path::{Path, PathBuf};
 use std::process::{Command, ExitCode, Stdio};
 use std::time::{Duration, Instant};
@@ -23,8 +24,7 @@ struct Options {
 }
 
 fn main() -> ExitCode {
-    let outcome =
-        parse(std::env::args().skip(1).collect()).and_then(|options| run(&options).map_err(|error| error.to_string()));
+    let outcome = parse().and_then(|options| run(&options).map_err(|error| error.to_string()));
     match outcome {
         Ok(()) => ExitCode::SUCCESS,
         Err(message) => {
@@ -34,47 +34,19 @@ fn main() -> ExitCode {
     }
 }
 
-fn parse(arguments: Vec<String>) -> Result<Options, String> {
-    let (mut runs, mut file, mut named) = (10, None, Vec::new());
-    let mut arguments = arguments.into_iter();
-    while let Some(argument) = arguments.next() {
-        match argument.as_str() {
-            "--runs" => {
-                runs = arguments.next().and_then(|text| text.parse().ok()).filter(|&runs| runs > 0).ok_or(USAGE)?
-            }
-            "--file" => file = Some(arguments.next().ok_or(USAGE)?.into()),
-            _ if argument.starts_with('-') => return Err(USAGE.into()),
-            _ => named.push(PathBuf::from(argument)),
-        }
+fn parse() -> Result<Options, String> {
+    let all = Arguments::of(std::env::args().skip(1), USAGE, &["--runs", "--file"], &[])?;
+    let runs = all.value("--runs")?.unwrap_or(10);
+    if runs == 0 {
+        return Err(USAGE.into());
     }
-    let programs = match <[PathBuf; 2]>::try_from(named) {
-        Ok(programs) => programs,
-        Err(named) if named.is_empty() => [proved(), second().map_err(|error| error.to_string())?],
-        Err(_) => return Err(USAGE.into()),
-    };
-    for program in &programs {
-        if !program.is_file() {
-            return Err(format!("{} is not there: build it first", program.display()));
-        }
-    }
+    let file = all.value("--file")?;
+    let programs = all.programs("check_file", "check_rust")?;
     let file = match file {
         Some(file) => file,
         None => published_file().map_err(|error| error.to_string())?,
     };
     Ok(Options { runs, file, programs })
-}
-
-/// The file in the published sample's shape, written on the first call.
-fn published_file() -> io::Result<PathBuf> {
-    let path = Path::new(env!("CARGO_MANIFEST_DIR")).join("target/rpf01.csv");
-    if !path.is_file() {
-        let unfinished = path.with_extension("unfinished");
-        let mut out = BufWriter::new(File::create(&unfinished)?);
-        sample::write(Shape::PUBLISHED, &mut out)?;
-        out.flush()?;
-        fs::rename(&unfinished, &path)?;
-    }
-    Ok(path)
 }
 
 fn run(options: &Options) -> io::Result<()> {

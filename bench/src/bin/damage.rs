@@ -1,8 +1,9 @@
 //! Asks two programs about many small files, valid and damaged, and prints every difference.
 
+use bench::arguments::Arguments;
 use bench::cases::{edges, random_case, Case};
 use bench::check::Fault;
-use bench::programs::{ask, proved, second, Answer};
+use bench::programs::{ask, Answer};
 use std::collections::BTreeMap;
 use std::fs;
 use std::io;
@@ -30,8 +31,7 @@ struct Tally {
 }
 
 fn main() -> ExitCode {
-    let outcome =
-        parse(std::env::args().skip(1).collect()).and_then(|options| run(&options).map_err(|error| error.to_string()));
+    let outcome = parse().and_then(|options| run(&options).map_err(|error| error.to_string()));
     match outcome {
         Ok(0) => ExitCode::SUCCESS,
         Ok(_) => ExitCode::FAILURE,
@@ -42,30 +42,10 @@ fn main() -> ExitCode {
     }
 }
 
-fn parse(arguments: Vec<String>) -> Result<Options, String> {
-    let (mut cases, mut seed, mut edges, mut named) = (2_000, 1, true, Vec::new());
-    let mut arguments = arguments.into_iter();
-    while let Some(argument) = arguments.next() {
-        let mut number = || arguments.next().and_then(|text| text.parse().ok()).ok_or(USAGE);
-        match argument.as_str() {
-            "--cases" => cases = number()?,
-            "--seed" => seed = number()?,
-            "--no-edges" => edges = false,
-            _ if argument.starts_with('-') => return Err(USAGE.into()),
-            _ => named.push(PathBuf::from(argument)),
-        }
-    }
-    let programs = match <[PathBuf; 2]>::try_from(named) {
-        Ok(programs) => programs,
-        Err(named) if named.is_empty() => [proved(), second().map_err(|error| error.to_string())?],
-        Err(_) => return Err(USAGE.into()),
-    };
-    for program in &programs {
-        if !program.is_file() {
-            return Err(format!("{} is not there: build it first", program.display()));
-        }
-    }
-    Ok(Options { cases, seed, edges, programs })
+fn parse() -> Result<Options, String> {
+    let all = Arguments::of(std::env::args().skip(1), USAGE, &["--cases", "--seed"], &["--no-edges"])?;
+    let (cases, seed) = (all.value("--cases")?.unwrap_or(2_000), all.value("--seed")?.unwrap_or(1));
+    Ok(Options { cases, seed, edges: !all.has("--no-edges"), programs: all.programs("check_file", "check_rust")? })
 }
 
 /// Runs every case; answers the number of differences.

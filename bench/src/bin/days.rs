@@ -1,5 +1,6 @@
 //! Runs two margin programs on many random days and prints every difference.
 
+use bench::arguments::Arguments;
 use bench::days::{random_day, Day};
 use std::collections::BTreeMap;
 use std::fs;
@@ -12,7 +13,7 @@ Runs both programs on N random days (1000) from seed S (1) and compares standard
 are the repository's crates/margin_call/out/margin_call and margin_rust unless they are named.";
 
 fn main() -> ExitCode {
-    match parse(std::env::args().skip(1).collect()).and_then(|job| run(&job).map_err(|error| error.to_string())) {
+    match parse().and_then(|job| run(&job).map_err(|error| error.to_string())) {
         Ok(0) => ExitCode::SUCCESS,
         Ok(_) => ExitCode::FAILURE,
         Err(message) => {
@@ -28,28 +29,10 @@ struct Job {
     programs: [PathBuf; 2],
 }
 
-fn parse(arguments: Vec<String>) -> Result<Job, String> {
-    let (mut cases, mut seed, mut named) = (1_000, 1, Vec::new());
-    let mut arguments = arguments.into_iter();
-    while let Some(argument) = arguments.next() {
-        let mut number = || arguments.next().and_then(|text| text.parse().ok()).ok_or(USAGE);
-        match argument.as_str() {
-            "--cases" => cases = number()?,
-            "--seed" => seed = number()?,
-            _ if argument.starts_with('-') => return Err(USAGE.into()),
-            _ => named.push(PathBuf::from(argument)),
-        }
-    }
-    let programs = match <[PathBuf; 2]>::try_from(named) {
-        Ok(programs) => programs,
-        Err(named) if named.is_empty() => {
-            let proved = Path::new(env!("CARGO_MANIFEST_DIR")).join("../crates/margin_call/out/margin_call");
-            let second = std::env::current_exe().map_err(|error| error.to_string())?.with_file_name("margin_rust");
-            [proved, second]
-        }
-        Err(_) => return Err(USAGE.into()),
-    };
-    Ok(Job { cases, seed, programs })
+fn parse() -> Result<Job, String> {
+    let all = Arguments::of(std::env::args().skip(1), USAGE, &["--cases", "--seed"], &[])?;
+    let (cases, seed) = (all.value("--cases")?.unwrap_or(1_000), all.value("--seed")?.unwrap_or(1));
+    Ok(Job { cases, seed, programs: all.programs("margin_call", "margin_rust")? })
 }
 
 /// Runs every day; answers the number of differences.

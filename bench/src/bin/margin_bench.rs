@@ -1,10 +1,11 @@
 //! Times the proved margin program beside the second implementation on one day, in turn, and prints the ratio.
 
+use bench::arguments::Arguments;
 use bench::random::Random;
-use bench::sample::{self, Shape};
+use bench::sample::{folder, published_file};
 use std::fmt::Write as _;
 use std::fs::{self, File};
-use std::io::{self, BufRead, BufReader, BufWriter, Write};
+use std::io::{self, BufRead, BufReader};
 use std::path::{Path, PathBuf};
 use std::process::{Command, ExitCode, Stdio};
 use std::time::{Duration, Instant};
@@ -19,7 +20,7 @@ const SETTINGS: &str = "Multiplier,1.00\nCredit,5000000\nFloor_Rate,0.0250\nLiqu
                         Position_Limit,0\nCredit_Risk,0\nAd_Hoc,0\nIPO,1,5\n";
 
 fn main() -> ExitCode {
-    match parse(std::env::args().skip(1).collect()).and_then(|job| run(job).map_err(|error| error.to_string())) {
+    match parse().and_then(|job| run(job).map_err(|error| error.to_string())) {
         Ok(()) => ExitCode::SUCCESS,
         Err(message) => {
             eprintln!("margin_bench: {message}");
@@ -28,27 +29,13 @@ fn main() -> ExitCode {
     }
 }
 
-fn parse(arguments: Vec<String>) -> Result<(u32, [PathBuf; 2]), String> {
-    let (mut runs, mut named) = (10, Vec::new());
-    let mut arguments = arguments.into_iter();
-    while let Some(argument) = arguments.next() {
-        match argument.as_str() {
-            "--runs" => {
-                runs = arguments.next().and_then(|text| text.parse().ok()).filter(|&runs| runs > 0).ok_or(USAGE)?
-            }
-            _ if argument.starts_with('-') => return Err(USAGE.into()),
-            _ => named.push(PathBuf::from(argument)),
-        }
+fn parse() -> Result<(u32, [PathBuf; 2]), String> {
+    let all = Arguments::of(std::env::args().skip(1), USAGE, &["--runs"], &[])?;
+    let runs = all.value("--runs")?.unwrap_or(10);
+    if runs == 0 {
+        return Err(USAGE.into());
     }
-    match <[PathBuf; 2]>::try_from(named) {
-        Ok(programs) => Ok((runs, programs)),
-        Err(named) if named.is_empty() => {
-            let proved = Path::new(env!("CARGO_MANIFEST_DIR")).join("../crates/margin_call/out/margin_call");
-            let second = std::env::current_exe().map_err(|error| error.to_string())?.with_file_name("margin_rust");
-            Ok((runs, [proved, second]))
-        }
-        Err(_) => Err(USAGE.into()),
-    }
+    Ok((runs, all.programs("margin_call", "margin_rust")?))
 }
 
 fn run((runs, programs): (u32, [PathBuf; 2])) -> io::Result<()> {
@@ -77,13 +64,8 @@ fn run((runs, programs): (u32, [PathBuf; 2])) -> io::Result<()> {
 
 /// Writes the files of the day where they are not there yet; answers the arguments that name them.
 fn day() -> io::Result<Vec<PathBuf>> {
-    let folder = Path::new(env!("CARGO_MANIFEST_DIR")).join("target");
-    let (rpf, settings, journal) = (folder.join("rpf01.csv"), folder.join("settings.csv"), folder.join("journal.csv"));
-    if !rpf.is_file() {
-        let mut out = BufWriter::new(File::create(&rpf)?);
-        sample::write(Shape::PUBLISHED, &mut out)?;
-        out.flush()?;
-    }
+    let (folder, rpf) = (folder()?, published_file()?);
+    let (settings, journal) = (folder.join("settings.csv"), folder.join("journal.csv"));
     fs::write(&settings, SETTINGS)?;
     fs::write(&journal, posts(&rpf)?)?;
     Ok(vec!["--csv".into(), "--rpf".into(), rpf, "--settings".into(), settings, journal])

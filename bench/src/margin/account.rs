@@ -66,7 +66,10 @@ impl Account {
     }
 
     /// Posts an entry of these numbers, in a journal's order; answers the count of live entries, or a question.
-    pub fn post(&mut self, [number, kind, stock, quantity, contract_value, market_value]: [i64; 6]) -> Result<usize, u32> {
+    pub fn post(
+        &mut self,
+        [number, kind, stock, quantity, contract_value, market_value]: [i64; 6],
+    ) -> Result<usize, u32> {
         if !(1..=MAX_NUMBER).contains(&number) {
             return Err(21);
         }

@@ -52,7 +52,8 @@ pub fn assess(account: &Account, settings: &Settings, source: &Source, places: u
         return Err(Refusal::Gross);
     }
     let in_tier = |tier| -> Vec<(u32, i128)> {
-        let stocks = positions.iter().filter(|((kind, stock), _)| *kind == Kind::Stock && source.tier(*stock) == Some(tier));
+        let stocks =
+            positions.iter().filter(|((kind, stock), _)| *kind == Kind::Stock && source.tier(*stock) == Some(tier));
         stocks.map(|((_, stock), value)| (*stock, *value)).collect()
     };
     let (portfolio_tier, flat_tier) = (in_tier(Tier::Portfolio), in_tier(Tier::Flat));
@@ -131,7 +132,8 @@ fn flat_margin(tier: &[(u32, i128)], settings: &Settings, source: &Source) -> i1
     for &(stock, value) in tier {
         categories.entry(source.flat_rate_ten_thousandths(stock).unwrap_or(0)).or_default().push(value);
     }
-    let cost = |(rate, values): (u32, Vec<i128>)| i128::from(rate) * settings.multiplier * greater_side(values.into_iter());
+    let cost =
+        |(rate, values): (u32, Vec<i128>)| i128::from(rate) * settings.multiplier * greater_side(values.into_iter());
     rounded_off(categories.into_iter().map(cost).sum(), 1_000_000)
 }
 
@@ -152,4 +154,3 @@ fn holdings(positions: &Positions, places: usize) -> Vec<(u32, u32, i128)> {
     all.truncate(places);
     all
 }
-

@@ -21,8 +21,7 @@ pub struct Settings {
 
 impl Settings {
     pub fn in_range(&self) -> bool {
-        let amounts =
-            [self.liquidation, self.structured_product, self.position_limit, self.credit_risk, self.ad_hoc];
+        let amounts = [self.liquidation, self.structured_product, self.position_limit, self.credit_risk, self.ad_hoc];
         (100..=400).contains(&self.multiplier)
             && (0..=1_000_000_000).contains(&self.credit)
             && (0..=10_000).contains(&self.floor_rate)

@@ -36,8 +36,11 @@ impl Source {
                     },
                 ]
             }
-            Source::Fallback(_) => [(ReturnSet::Historical, 10_000), (ReturnSet::Stress, 0)]
-                .map(|(set, weight_ten_thousandths)| SetParameters { set, weight_ten_thousandths, scenarios: 1, tail: 1 }),
+            Source::Fallback(_) => {
+                [(ReturnSet::Historical, 10_000), (ReturnSet::Stress, 0)].map(|(set, weight_ten_thousandths)| {
+                    SetParameters { set, weight_ten_thousandths, scenarios: 1, tail: 1 }
+                })
+            }
         }
     }
 

@@ -1,5 +1,6 @@
 -- A journal's call upon an account. Assumes nothing.
 use Rattle.std.specs.Prelude.{ℕ, List, map, Result}
+use Rattle.std.specs.List.{flat_map}
 use Rattle.parameter_text.specs.Cuts.{lines}
 use Rattle.ledger.specs.declared.terms.Place.{Place}
 use Rattle.ledger.specs.declared.terms.EntryRefusal.{EntryRefusal}
@@ -25,3 +26,7 @@ places_after places calls slots = runs places (map call_made calls) slots
 -- the calls of a journal's text
 abbrev pub journal_calls : List ℕ → List JournalCall
 journal_calls text = calls_of (lines text)
+
+-- the calls of several journals' texts, one journal after the other
+abbrev pub all_calls : List (List ℕ) → List JournalCall
+all_calls texts = flat_map journal_calls texts

@@ -1,9 +1,9 @@
 // Works out the margin requirement of a settlement account from its journals, and prints it or why it is refused.
 #![tactic(auto)]
 
-ghost use Rattle.std.specs.Prelude.{◌≡◌, ◌+◌, IfOk, OnOk, vec_len, length, take, max, min};
+ghost use Rattle.std.specs.Prelude.{◌≡◌, ◌+◌, IfOk, OnOk, vec_len, length, map, take, max, min};
 ghost use Rattle.ledger.specs.Calls.{after};
-ghost use Rattle.margin_call.specs.Applied.{call_made, answer_made, places_after, journal_calls};
+ghost use Rattle.margin_call.specs.Applied.{call_made, answer_made, places_after, journal_calls, all_calls};
 
 use desk::{CsvFault, FaultReport};
 use fallback_source::FallbackSource;
@@ -186,13 +186,17 @@ fn day<S: ReturnSource>(
     assess(rt, wanted, source, &account.close(), &counts)
 }
 
-// Applies the journals, and counts the answers.
+// Applies the journals, each from its first line to its last, and counts the answers.
 fn apply(
     rt: &HostRuntime,
     wanted: &MarginCall<'_>,
     journals: &Vec<Vec<u8>>,
     account: &mut OpenAccount<'_>,
-) -> Result<AnswerCounts, NotDone> {
+) -> Result<AnswerCounts, NotDone>
+    ensures places { OnOk result (take account.new.used account.new.table.now ≡ places_after (length account.old.table.now) (all_calls (map (λ v. v.items) journals.now.items)) (take account.old.used account.old.table.now)) }
+    ensures room { length account.new.table.now ≡ length account.old.table.now }
+    ensures settings { account.new.settings ≡ account.old.settings }
+{
     let mut counts = AnswerCounts::new();
     for (index, journal) in journals.iter().enumerate() {
         apply_journal(

@@ -1,7 +1,7 @@
 // From bytes to a checked file: memory, a file received, its check, and the file checked.
-ghost use Rattle.std.specs.Prelude.{◌≡◌, ◌≤◌, min, true, length, is_some, is_ok, IfOk, Ok, Err, MatchResult};
+ghost use Rattle.std.specs.Prelude.{◌≡◌, ◌+◌, ◌/◌, ◌≤◌, min, true, length, is_some, is_ok, vec_capacity, IfOk, Ok, Err, MatchResult};
 ghost use Rattle.parameter_heading.specs.Laid.{TailFigures};
-ghost use Rattle.file_rules.specs.Judged.{most_bytes, verdict};
+ghost use Rattle.file_rules.specs.Judged.{most_bytes, stock_places, verdict};
 ghost use Rattle.file_rules.specs.Laid.{FilesPass};
 ghost use Rattle.parameter_file.specs.Checked.{check_answer, file_of};
 
@@ -17,7 +17,9 @@ impl Memory {
     // Memory for a file of some length, at most twice its size beside a table of the stocks; or want of memory. A file that
     // is too long is refused by its length alone.
     pub fn for_file(length: usize, heap: Global) -> Result<Memory, AllocError>
-        ensures { IfOk result (λ m. m.length ≡ min length most_bytes) }
+        ensures length { IfOk result (λ m. m.length ≡ min length most_bytes) }
+        ensures kept { IfOk result (λ m. vec_capacity m.kept ≡ m.length / 2 + 4001) }
+        ensures table { IfOk result (λ m. vec_capacity m.table ≡ stock_places) }
     {
         let length = length.min(MOST_BYTES);
         let kept = Vec::with_capacity(heap, length / 2 + MOST_SCENARIOS + 1)?;

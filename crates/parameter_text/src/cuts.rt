@@ -1,5 +1,5 @@
 // Lines of a text and cells of a line, one after the other.
-ghost use Rattle.std.specs.Prelude.{◌≡◌, ℕ, ◌+◌, ◌<◌, ◌≤◌, not, [], ◌∷◌, length, drop, MatchOption, ◌==◌};
+ghost use Rattle.std.specs.Prelude.{◌≡◌, ℕ, ◌+◌, ◌<◌, ◌≤◌, not, [], ◌∷◌, length, drop, IfNone, MatchOption, ◌==◌};
 ghost use Rattle.std.specs.Option.{option_map};
 ghost use Rattle.std.specs.List.{prefix_len};
 ghost use Rattle.parameter_text.specs.Cuts.{split, parts_of, cells, all_empty, chomped, line_of, after_line, lines};
@@ -43,9 +43,10 @@ impl<'a> Cells<'a> {
         Cells { rest: Some(line) }
     }
 
-    // The next cell, or none where all were given.
+    // The next cell, or none where all were given; from then on there is none.
     pub fn next_cell(&mut self) -> Option<&'a [u8]>
-        ensures { MatchOption result (cells_left self.old ≡ []) (λ cell. cells_left self.old ≡ cell.now ∷ cells_left self.new) }
+        ensures cell { MatchOption result (cells_left self.old ≡ []) (λ cell. cells_left self.old ≡ cell.now ∷ cells_left self.new) }
+        ensures end { IfNone result (cells_left self.new ≡ []) }
     {
         let line = self.rest?;
         match cut_at(line, b',') {
@@ -131,10 +132,11 @@ impl<'a> Lines<'a> {
         text
     }
 
-    // The next line without its end, or none at the end of the text.
+    // The next line without its end, or none at the end of the text; from then on there is none.
     pub fn next_line(&mut self) -> Option<&'a [u8]>
         ensures line { MatchOption result (text_left self.old ≡ []) (λ line. (line.now ≡ line_of (text_left self.old)) × (text_left self.new ≡ after_line (text_left self.old))) }
         ensures left { MatchOption result (lines_left self.old ≡ []) (λ line. lines_left self.old ≡ line.now ∷ lines_left self.new) }
+        ensures end { IfNone result (text_left self.new ≡ []) }
     {
         let (line, rest) = first_line(self.rest)?;
         self.rest = rest;

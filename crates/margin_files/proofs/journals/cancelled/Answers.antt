@@ -15,13 +15,13 @@ pub returns-in-Some : goal.returns-in-Some
 unfolding cancelled_in
 returns-in-Some c =
     let one = wholes_more cancelled_of (cells_left c.args.cells) (cells_left c.next_whole.new.cells) c.in_ok-number.number c.in_ok-number.ensures in
-    sym (one ∙ wholes_over (λ zs. cancelled_of (c.in_ok-number.number ∷ zs)) (λ z zs. refl) (cells_left c.next_whole.new.cells) c.in-Some.field-0.now (cells_left c.next_cell.new.self) c.in-Some.ensures)
+    sym (one ∙ wholes_over (λ zs. cancelled_of (c.in_ok-number.number ∷ zs)) (λ z zs. refl) (cells_left c.next_whole.new.cells) c.in-Some.field-0.now (cells_left c.next_cell.new.self) c.in-Some.ensures.cell)
 
 pub returns-in-None : goal.returns-in-None
 unfolding cancelled_in
 returns-in-None c =
     let one = wholes_more cancelled_of (cells_left c.args.cells) (cells_left c.next_whole.new.cells) c.in_ok-number.number c.in_ok-number.ensures in
-    let all = one ∙ wholes_end (λ zs. cancelled_of (c.in_ok-number.number ∷ zs)) (cells_left c.next_whole.new.cells) c.in-None.ensures in
+    let all = one ∙ wholes_end (λ zs. cancelled_of (c.in_ok-number.number ∷ zs)) (cells_left c.next_whole.new.cells) c.in-None.ensures.cell in
     let fits : SFits w64 c.in_ok-number.number = search rules in
     let number : c.in_u32.result ≡ in_u32 c.in_ok-number.number = grind (arith, to_z-of_z, c.in_u32.ensures) in
     rw (all, number) refl

@@ -61,7 +61,7 @@ returns-in-Some c =
     let to_quantity = wholes_more (λ zs. posting_of (c.in_ok-number.number ∷ c.in_ok-kind.kind ∷ c.in_ok-stock.stock ∷ zs)) (cells_left c.next_whole-3.new.cells) (cells_left c.next_whole-4.new.cells) c.in_ok-quantity.quantity c.in_ok-quantity.ensures in
     let to_contract_value = wholes_more (λ zs. posting_of (c.in_ok-number.number ∷ c.in_ok-kind.kind ∷ c.in_ok-stock.stock ∷ c.in_ok-quantity.quantity ∷ zs)) (cells_left c.next_whole-4.new.cells) (cells_left c.next_whole-5.new.cells) c.in_ok-contract_value.contract_value c.in_ok-contract_value.ensures in
     let to_market_value = wholes_more (λ zs. posting_of (c.in_ok-number.number ∷ c.in_ok-kind.kind ∷ c.in_ok-stock.stock ∷ c.in_ok-quantity.quantity ∷ c.in_ok-contract_value.contract_value ∷ zs)) (cells_left c.next_whole-5.new.cells) (cells_left c.next_whole-6.new.cells) c.in_ok-market_value.market_value c.in_ok-market_value.ensures in
-    sym (to_number ∙ to_kind ∙ to_stock ∙ to_quantity ∙ to_contract_value ∙ to_market_value ∙ wholes_over (λ zs. posting_of (c.in_ok-number.number ∷ c.in_ok-kind.kind ∷ c.in_ok-stock.stock ∷ c.in_ok-quantity.quantity ∷ c.in_ok-contract_value.contract_value ∷ c.in_ok-market_value.market_value ∷ zs)) (λ z zs. refl) (cells_left c.next_whole-6.new.cells) c.in-Some.field-0.now (cells_left c.next_cell.new.self) c.in-Some.ensures)
+    sym (to_number ∙ to_kind ∙ to_stock ∙ to_quantity ∙ to_contract_value ∙ to_market_value ∙ wholes_over (λ zs. posting_of (c.in_ok-number.number ∷ c.in_ok-kind.kind ∷ c.in_ok-stock.stock ∷ c.in_ok-quantity.quantity ∷ c.in_ok-contract_value.contract_value ∷ c.in_ok-market_value.market_value ∷ zs)) (λ z zs. refl) (cells_left c.next_whole-6.new.cells) c.in-Some.field-0.now (cells_left c.next_cell.new.self) c.in-Some.ensures.cell)
 
 pub returns-in-None : goal.returns-in-None
 unfolding posting_in
@@ -72,7 +72,7 @@ returns-in-None c =
     let to_quantity = wholes_more (λ zs. posting_of (c.in_ok-number.number ∷ c.in_ok-kind.kind ∷ c.in_ok-stock.stock ∷ zs)) (cells_left c.next_whole-3.new.cells) (cells_left c.next_whole-4.new.cells) c.in_ok-quantity.quantity c.in_ok-quantity.ensures in
     let to_contract_value = wholes_more (λ zs. posting_of (c.in_ok-number.number ∷ c.in_ok-kind.kind ∷ c.in_ok-stock.stock ∷ c.in_ok-quantity.quantity ∷ zs)) (cells_left c.next_whole-4.new.cells) (cells_left c.next_whole-5.new.cells) c.in_ok-contract_value.contract_value c.in_ok-contract_value.ensures in
     let to_market_value = wholes_more (λ zs. posting_of (c.in_ok-number.number ∷ c.in_ok-kind.kind ∷ c.in_ok-stock.stock ∷ c.in_ok-quantity.quantity ∷ c.in_ok-contract_value.contract_value ∷ zs)) (cells_left c.next_whole-5.new.cells) (cells_left c.next_whole-6.new.cells) c.in_ok-market_value.market_value c.in_ok-market_value.ensures in
-    let all = to_number ∙ to_kind ∙ to_stock ∙ to_quantity ∙ to_contract_value ∙ to_market_value ∙ wholes_end (λ zs. posting_of (c.in_ok-number.number ∷ c.in_ok-kind.kind ∷ c.in_ok-stock.stock ∷ c.in_ok-quantity.quantity ∷ c.in_ok-contract_value.contract_value ∷ c.in_ok-market_value.market_value ∷ zs)) (cells_left c.next_whole-6.new.cells) c.in-None.ensures in
+    let all = to_number ∙ to_kind ∙ to_stock ∙ to_quantity ∙ to_contract_value ∙ to_market_value ∙ wholes_end (λ zs. posting_of (c.in_ok-number.number ∷ c.in_ok-kind.kind ∷ c.in_ok-stock.stock ∷ c.in_ok-quantity.quantity ∷ c.in_ok-contract_value.contract_value ∷ c.in_ok-market_value.market_value ∷ zs)) (cells_left c.next_whole-6.new.cells) c.in-None.ensures.cell in
     let fits_number : SFits w64 c.in_ok-number.number = search rules in
     let fits_kind : SFits w64 c.in_ok-kind.kind = search rules in
     let fits_stock : SFits w64 c.in_ok-stock.stock = search rules in

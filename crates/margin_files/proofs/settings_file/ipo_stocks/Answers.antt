@@ -14,5 +14,5 @@ loop-k-preserved c =
     let stock = c.in_ok-whole_number-in-Some.field-0 in
     let fits : SFits w64 c.in_ok-whole_number-in-Some.field-0 = search rules in
     let is : c.in_u32.result ≡ in_u32 c.in_ok-whole_number-in-Some.field-0 = grind (arith, to_z-of_z, c.in_u32.ensures) in
-    placed_more (cells_left c.args.cells) (cells_left c.loop-k.left) (cells_left c.next_cell.new.self) c.in-Some.cell.now c.loop-k.stocks c.loop-k.k c.loop-k.invariant c.in-Some.ensures
+    placed_more (cells_left c.args.cells) (cells_left c.loop-k.left) (cells_left c.next_cell.new.self) c.in-Some.cell.now c.loop-k.stocks c.loop-k.k c.loop-k.invariant c.in-Some.ensures.cell
     stock c.in_u32.result (omega arith) (sym c.in_ok-whole_number-in-Some.ensures) is

@@ -11,7 +11,7 @@ returns c =
       c.in-Ok-number.kind,
       record {
         within = omega arith;
-        parts = head_parts c.args.text.now first second _ _ (sym c.new-cells.ensures ∙ c.in-Some.ensures) c.in-Some-next_cell.ensures (omega arith);
+        parts = head_parts c.args.text.now first second _ _ (sym c.new-cells.ensures ∙ c.in-Some.ensures.cell) c.in-Some-next_cell.ensures.cell (omega arith);
         stock = sym c.in-Ok.ensures.stock;
         number = sym c.in-Ok-number.ensures.number;
         kind = sym c.field_type.ensures;

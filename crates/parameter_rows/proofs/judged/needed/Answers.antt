@@ -8,7 +8,7 @@ use Rattle.parameter_rows.proofs.judged.needed.Goals as goal
 use Rattle.parameter_rows.proofs.judged.needed.Goals.{in-Ok, in-Err}
 
 pub returns-in_err-cell : goal.returns-in_err-cell
-returns-in_err-cell c = let l = c.loop-value in rw c.from_residual.ensures (omega (arith, fewer (cells_left c.args.cells.now) (cells_left l.cells) (cells_left l.cells) l.value-index l.failed l.row l.invariant c.in_err-cell.ensures))
+returns-in_err-cell c = let l = c.loop-value in rw c.from_residual.ensures (omega (arith, fewer (cells_left c.args.cells.now) (cells_left l.cells) (cells_left l.cells) l.value-index l.failed l.row l.invariant c.in_err-cell.ensures.cell))
 
 pub loop-value-preserved : goal.loop-value-preserved
 loop-value-preserved c =
@@ -16,7 +16,7 @@ loop-value-preserved c =
     let L = cells_left c.args.cells.now in
     let left = cells_left l.cells in
     let left' = cells_left c.next_cell.new.self in
-    let e = c.in_ok-cell.ensures in
+    let e = c.in_ok-cell.ensures.cell in
     let m = c.match-return_value in
     elim m.branch [
       | in-Ok w ↦

@@ -2,7 +2,7 @@
 use ledger::Kind;
 
 // A group's total in one scenario, in whole dollars.
-#[derive(Clone, Copy, PartialEq, Eq)]
+#[derive(Clone, Copy, PartialEq, Eq, PartialOrd, Ord)]
 pub struct Outcome {
     pub total: i64,
     pub scenario: u32,

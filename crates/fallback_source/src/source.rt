@@ -78,11 +78,7 @@ impl ReturnSource for FallbackSource {
     }
 
     fn flat_rate(&self, stock: u32) -> Option<u32> {
-        if is_stock(stock) {
-            Some(self.rate)
-        } else {
-            None
-        }
+        is_stock(stock).then_some(self.rate)
     }
 
     fn entitlement(&self, _kind: EntitlementType, _stock: u32) -> Option<(u32, (u32, u32))> {

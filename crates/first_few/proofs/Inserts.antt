@@ -1,5 +1,5 @@
 -- What an insertion in order is. Assumes nothing.
-use Rattle.std.proofs.Common.{◌≡◌, ℕ, zero, suc, ◌+◌, ◌-◌, ◌<◌, ◌≤◌, min, Bool, true, false, cond, not, List, [], ◌∷◌, ◌++◌, length, get_or, take, drop, set, sym, refl, ap, ◌∙◌, subst, ⊎_elim, arith}
+use Rattle.std.proofs.Common.{◌≡◌, ℕ, zero, suc, ◌+◌, ◌-◌, ◌<◌, ◌≤◌, min, Bool, true, false, cond, not, List, [], ◌∷◌, ◌++◌, length, get_or, take, drop, set, Option, Some, None, IfSome, MatchOption, sym, refl, ap, ◌∙◌, subst, ⊎_elim, arith}
 use lib.Seq.{take-append-add}
 use Rattle.std.specs.List.{between, prefix_len, AllByRecursion as All}
 use Rattle.std.specs.Cmp.{IsStrictWeakOrder}
@@ -25,12 +25,6 @@ ranks {X} {before} o = record {
       (cases_Bool (before x z));
 }
 
-pub all_drop_less : {X : Type 0} (P : X → Type 0) (xs : List X) (i : ℕ) (y : X) → 0 < i → i ≤ length xs → y ≡ get_or xs (i - 1) y → P y → All P (drop i xs) → All P (drop (i - 1) xs)
-all_drop_less P xs i y p h e q a =
-    let one : i - 1 + 1 ≡ i = omega arith in
-    let front : drop (i - 1) xs ≡ get_or xs (i - 1) y ∷ drop (i - 1 + 1) xs = drop_more xs (i - 1) y (omega arith) in
-    rw front (subst P e q, rw one a)
-
 module _ {X : Type 0} {before : X → X → Bool} (o : IsStrictWeakOrder before) where
   same : (x : X) → before x x ≡ false
   same x = ⊎_elim (λ t. o.one_way x x t) (λ f. f) (cases_Bool (before x x))
@@ -47,15 +41,22 @@ module _ {X : Type 0} {before : X → X → Bool} (o : IsStrictWeakOrder before)
   abbrev pub rank : X → List X → ℕ
   rank x ys = prefix_len (λ y. not (before x y)) ys
 
-  pub rank_is : (x : X) (xs : List X) (i : ℕ) → InOrder before xs → i ≤ length xs → All (λ y. before x y ≡ true) (drop i xs) → (0 < i → before x (get_or xs (i - 1) x) ≡ false) → i ≡ rank x xs
+  rank_is : (x : X) (xs : List X) (i : ℕ) → InOrder before xs → i ≤ length xs → ((k : ℕ) → i ≤ k → k < length xs → before x (get_or xs k x) ≡ true) → (0 < i → before x (get_or xs (i - 1) x) ≡ false) → i ≡ rank x xs
   rank_is x [] i s h a l = omega arith
-  rank_is x (y ∷ ys) zero s h a l = rw a.0 refl
+  rank_is x (y ∷ ys) zero s h a l = let all : before x y ≡ true = a 0 (omega arith) (omega arith) in rw all refl
   rank_is x (y ∷ ys) (suc i) s h a l =
       let n : suc i - 1 ≡ i = omega arith in
       let here : before x (get_or (y ∷ ys) i x) ≡ false = rw n at (l (omega arith)) in
       let no : before x y ≡ false = o.chain x (get_or (y ∷ ys) i x) y here (first_least y ys i x s (omega arith)) in
-      let more : i ≡ rank x ys = rank_is x ys i s.1 (omega arith) a (down x y ys i here) in
+      let more : i ≡ rank x ys = rank_is x ys i s.1 (omega arith) (λ k q j. a (suc k) (omega arith) (omega arith)) (down x y ys i here) in
       rw no (omega arith)
+
+  -- the place behind the last that stays ahead of x, or else the first place
+  pub placed : (x : X) (xs : List X) (r : Option ℕ) (n : ℕ) → InOrder before xs → IfSome r (λ i. i < length xs) → IfSome r (λ i. before x (get_or xs i x) ≡ false) → IfSome r (λ i. (k : ℕ) → i < k → k < length xs → before x (get_or xs k x) ≡ true) → (r ≡ None → (k : ℕ) → k < length xs → before x (get_or xs k x) ≡ true) → MatchOption r (n ≡ 0) (λ i. n ≡ i + 1) → n ≡ rank x xs
+  placed x xs None n s inside ahead behind all e = rank_is x xs n s (omega arith) (λ k q j. all refl k j) (λ some. absurd (omega arith))
+  placed x xs (Some i) n s inside ahead behind all e =
+      let last : n - 1 ≡ i = omega arith in
+      rank_is x xs n s (omega arith) (λ k q j. behind k (omega arith) j) (λ some. rw last ahead)
 
   pub insertion_is : (x : X) (ys : List X) → insert_by before x ys ≡ take (rank x ys) ys ++ x ∷ drop (rank x ys) ys
   insertion_is x [] = refl

@@ -1,8 +1,16 @@
--- What stands in order.
+-- A comparison that tells an order, and what stands in order.
 use Rattle.std.specs.Prelude.{◌≡◌, Bool, false, List, [], ◌∷◌, ⊤}
+use Rattle.std.specs.declared.cmp.Ordering.{Ordering}
+use Rattle.std.specs.Ordering.{is_lt}
 use Rattle.std.specs.Coded.{×_prop, Unit-prop}
 use Rattle.std.specs.List.{AllByRecursion, AllByRecursion-prop}
 use Rattle.std.proofs.Math.Bool.{Bool-set}
+use Rattle.amounts.specs.FirstFew.{Strict}
+
+-- the lesser of two stands ahead, and of two that are not the same just one does
+pub record ComparesBy {X : Type 0} (cmp : X → X → Ordering) (before : X → X → Bool) : Type 0 where
+  pub less : (x y : X) → is_lt (cmp x y) ≡ before x y
+  pub strict : Strict before
 
 -- none stands ahead of one that comes earlier
 abbrev pub InOrder : {X : Type 0} → (X → X → Bool) → List X → Type 0

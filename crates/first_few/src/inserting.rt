@@ -1,33 +1,27 @@
 // One element put in its place among those in order.
-ghost use Rattle.std.specs.Prelude.{◌≡◌, ℕ, ◌+◌, ◌-◌, ◌<◌, ◌≤◌, min, Bool, true, false, not, List, [], ◌∷◌, ◌++◌, length, take, drop};
-ghost use Rattle.std.specs.List.{between, prefix_len};
+ghost use Rattle.std.specs.Prelude.{◌≡◌, ℕ, ◌+◌, ◌-◌, ◌<◌, ◌≤◌, min, Bool, true, false, not, List, [], ◌∷◌, ◌++◌, length, take, drop, IfSome, slice_index_or};
+ghost use Rattle.std.specs.List.{prefix_len};
 ghost use Rattle.amounts.specs.FirstFew.{keep};
 ghost use Rattle.first_few.specs.Order.{InOrder};
 
 use crate::order::Order;
+
+// The last element of `part` that stays ahead of `x`.
+fn last_ahead<T: Order>(part: &[T], x: T) -> Option<usize>
+    ensures inside { IfSome result (λ i. i < length part.now) }
+    ensures ahead { IfSome result (λ i. T.before x (slice_index_or part.now i x) ≡ false) }
+    ensures behind { IfSome result (λ i. (k : ℕ) → i < k → k < length part.now → T.before x (slice_index_or part.now k x) ≡ true) }
+    ensures all_behind { result ≡ None → (k : ℕ) → k < length part.now → T.before x (slice_index_or part.now k x) ≡ true }
+{
+    part.iter().rposition(|y| x.cmp(y).is_ge())
+}
 
 // How many of `part` stay ahead of `x`.
 fn place_of<T: Order>(part: &[T], x: T) -> usize
     requires { InOrder T.before part.now }
     ensures { result ≡ prefix_len (λ y. not (T.before x y)) part.now }
 {
-    let mut i = part.len();
-    while i > 0 && x.precedes(&part[i - 1]) {
-        i -= 1;
-    }
-    i
-}
-
-// Moves the elements from `from` up to `to` one place on.
-fn shift<T: Copy>(places: &mut [T], from: usize, to: usize)
-    requires { (from ≤ to) × (to < length places.old) }
-    ensures { places.new ≡ take (from + 1) places.old ++ (between from to places.old ++ drop (to + 1) places.old) }
-{
-    let mut j = to;
-    while j > from {
-        places[j] = places[j - 1];
-        j -= 1;
-    }
+    last_ahead(part, x).map_or(0, |last| last + 1)
 }
 
 // Takes `x` among the first `len` of `places`, and keeps of them as many as there are places.
@@ -45,7 +39,7 @@ pub(crate) fn insert<T: Order>(places: &mut [T], len: usize, x: T) -> usize
         return len;
     }
     let end = (cap - 1).min(len);
-    shift(places, at, end);
+    places.copy_within(at..end, at + 1);
     places[at] = x;
     end + 1
 }

@@ -8,6 +8,7 @@ use crate::inserting::insert;
 use crate::order::Order;
 
 // The places that are lent, and how many of them are in use.
+// Kept: a slice with a length beside it, since the places are the caller's memory and the margin engine uses no heap.
 #[derive(Drop)]
 pub struct FirstFew<'a, T: Order> {
     places: &'a mut [T],

@@ -1,16 +1,12 @@
-// A total order of a type's own.
-ghost use Rattle.std.specs.Prelude.{◌≡◌, Bool};
-ghost use Rattle.amounts.specs.FirstFew.{Strict};
+// A total order that levels none but the same.
+ghost use Rattle.std.specs.Prelude.{Bool};
+ghost use Rattle.first_few.specs.Order.{ComparesBy};
 
-// A type with a total order.
-pub trait Order: Copy {
+// A type whose comparison calls only the same value level.
+pub trait Order: Ord + Copy {
     // Whether one stands ahead of the other.
     ghost before: { Self → Self → Bool };
 
-    // Whether this stands ahead of the other.
-    fn precedes(&self, other: &Self) -> bool
-        ensures { result ≡ before self.now other.now };
-
-    // Of two that are not the same, just one stands ahead.
-    ghost strict: { Strict before };
+    // The comparison puts the one ahead, and of two that are not the same just one stands ahead.
+    ghost compares: { ComparesBy Self.cmp before };
 }

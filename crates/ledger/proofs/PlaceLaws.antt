@@ -1,8 +1,9 @@
 -- The place of a number is the first one that is kept for it.
 use borrow.Author.Tests.{eqb-false}
-use Rattle.std.proofs.Common.{◌≡◌, ℕ, zero, suc, ◌+◌, ◌<◌, ◌≤◌, Bool, true, false, cond, not, List, [], ◌∷◌, ◌++◌, length, get_or, set, Some, None, sym, refl, ap, ◌∙◌, inl, inr, arith, slice_get, eqb-true}
-use Rattle.std.specs.List.{prefix_len}
-use Rattle.std.proofs.lemmas.List.Sums.{prefix_len-drop_yes, prefix_len-drop_no, prefix_len-drop_all}
+use Rattle.std.proofs.Common.{◌≡◌, ℕ, zero, suc, ◌+◌, ◌<◌, ◌≤◌, Bool, true, false, cond, not, List, [], ◌∷◌, ◌++◌, length, get_or, set, Some, None, sym, refl, ap, ◌∙◌, inl, inr, arith, slice_get, eqb-true, unwrap_or, nat_lt}
+use Rattle.std.specs.List.{prefix_len, position}
+use Rattle.std.proofs.lemmas.List.Sums.{prefix_len-le-length}
+use Rattle.std.proofs.lemmas.Bool.Decides.{nat_tests}
 use Rattle.amounts.specs.Sets.{In}
 use Rattle.ledger.specs.declared.terms.Place.{Place}
 use Rattle.ledger.specs.declared.terms.Place.TheVariants.{Free, Live, Cancelled}
@@ -11,11 +12,16 @@ use Rattle.ledger.specs.Entries.{numbered}
 use Rattle.ledger.specs.Table.{number_of_place, is_of, is_other, found, posted, cancelled, one_live, live_count}
 use Rattle.ledger.proofs.Steps.{numbers}
 
--- how many places stand ahead, one place further
-pub ruleset passing = (prefix_len-drop_yes, prefix_len-drop_no, prefix_len-drop_all)
-
 abbrev ahead : ℕ → List Place → ℕ
 ahead n t = prefix_len (is_other n) t
+
+-- as many stand ahead as the first one's place tells, or all
+pub first_or_all : (n : ℕ) (t : List Place) → unwrap_or (position (is_of n) t) (length t) ≡ ahead n t
+first_or_all n t = go (nat_lt (ahead n t) (length t)) refl
+  where
+    go : (b : Bool) → nat_lt (ahead n t) (length t) ≡ b → unwrap_or (cond b (Some (ahead n t)) None) (length t) ≡ ahead n t
+    go true e = refl
+    go false e = grind (arith, nat_tests, e, prefix_len-le-length (is_other n) t)
 
 pub found_at : (n : ℕ) (t : List Place) → slice_get t (ahead n t) ≡ found n t
 found_at n [] = refl

@@ -1,7 +1,8 @@
 // The questions that the places of a table are asked.
 ghost use Rattle.std.specs.Prelude.{◌≡◌, slice_get};
-ghost use Rattle.std.specs.List.{prefix_len};
-ghost use Rattle.ledger.specs.Table.{number_of_place, is_other};
+ghost use Rattle.std.specs.List.{position, prefix_len};
+ghost use Rattle.std.specs.Result.{result_err};
+ghost use Rattle.ledger.specs.Table.{number_of_place, is_of, is_other};
 ghost use Rattle.ledger.specs.Calls.{post_known, cancel_known, checked_post, checked_cancel};
 ghost use Rattle.ledger.specs.Laws.{OrderDoesNotCount, CancelledStaysCancelled, EachNumberOnePlace, LiveIsPostedAndNotCancelled};
 
@@ -10,6 +11,7 @@ use super::terms::{Entry, EntryRefusal, Place, Posting};
 
 impl Place {
     // The number that the place is kept for, 0 where it is free.
+    // Kept: 0 and no `None`, since the laws of a table compare the numbers of all its places.
     pub fn number(&self) -> u32
         ensures { result ≡ number_of_place self.now }
     {
@@ -21,75 +23,59 @@ impl Place {
     }
 }
 
+// The place of a number, told by how many stand ahead of it, if it has one.
+fn position_of(places: &[Place], number: u32) -> Option<usize>
+    ensures { result ≡ position (is_of number) places.now }
+{
+    places.iter().position(|place| place.number() == number)
+}
+
 // How many places stand ahead of the first one of a number; all of them where it has none.
-#[tactic(auto, using(crate::proofs::PlaceLaws::passing))]
+#[tactic(auto, using(crate::proofs::PlaceLaws::first_or_all))]
 pub fn place_of(places: &[Place], number: u32) -> usize
     ensures { result ≡ prefix_len (is_other number) places.now }
 {
-    for (i, place) in places.iter().enumerate() {
-        if place.number() == number {
-            return i;
-        }
-    }
-    places.len()
+    position_of(places, number).unwrap_or(places.len())
 }
 
 // The place behind so many others, if there is one.
+// Kept: with `get(at).copied()` at its two calls the proofs of the callers, `judge_post` and `check_cancel`, don't close.
 fn place_at(places: &[Place], at: usize) -> Option<Place>
     ensures { result ≡ slice_get places.now at }
 {
     places.get(at).copied()
 }
 
-// What the state of a post's number, or then the want of room, refuses it for.
-fn post_known(place: Option<Place>, has_room: bool) -> Option<EntryRefusal>
-    ensures { result ≡ post_known place has_room }
+// Whether the state of a call's number, and then the room, lets it pass. What a live entry says to the call is given.
+fn check_state(
+    place: Option<Place>,
+    has_room: bool,
+    live: Result<(), EntryRefusal>,
+) -> Result<(), EntryRefusal>
+    ensures post { live ≡ Err EntryRefusal.Posted → result_err result ≡ post_known place has_room }
+    ensures cancel { live ≡ Ok tt → result_err result ≡ cancel_known place has_room }
 {
     match place {
-        Some(Place::Cancelled { .. }) => Some(EntryRefusal::Cancelled),
-        Some(Place::Live { .. }) => Some(EntryRefusal::Posted),
-        Some(Place::Free) | None => {
-            if has_room {
-                None
-            } else {
-                Some(EntryRefusal::Full)
-            }
-        }
-    }
-}
-
-// What the state of a cancel's number, or then the want of room, refuses it for.
-fn cancel_known(place: Option<Place>, has_room: bool) -> Option<EntryRefusal>
-    ensures { result ≡ cancel_known place has_room }
-{
-    match place {
-        Some(Place::Cancelled { .. }) => Some(EntryRefusal::Cancelled),
-        Some(Place::Live { .. }) => None,
-        Some(Place::Free) | None => {
-            if has_room {
-                None
-            } else {
-                Some(EntryRefusal::Full)
-            }
-        }
+        Some(Place::Cancelled { .. }) => Err(EntryRefusal::Cancelled),
+        Some(Place::Live { .. }) => live,
+        Some(Place::Free) | None if has_room => Ok(()),
+        Some(Place::Free) | None => Err(EntryRefusal::Full),
     }
 }
 
 // The entry that a post stores, or the first question that refuses it.
+// Kept: apart from `check_post`, whose laws have written proofs, so that the check finds the proof of this answer alone.
 #[tactic(auto, using(crate::proofs::PlaceLaws::found_at))]
 fn judge_post(used: &[Place], places: usize, posting: &Posting) -> Result<Entry, EntryRefusal>
     ensures { result ≡ checked_post places posting.now used.now }
 {
-    let number = posting.number;
-    if !is_numbered(number) {
+    if !is_numbered(posting.number) {
         return Err(EntryRefusal::Number);
     }
     let entry = entry_of(posting)?;
-    let place = place_at(used, place_of(used, number));
-    match post_known(place, used.len() < places) {
-        Some(refusal) => Err(refusal),
-        None => Ok(entry),
-    }
+    let place = place_at(used, place_of(used, posting.number));
+    check_state(place, used.len() < places, Err(EntryRefusal::Posted))?;
+    Ok(entry)
 }
 
 // The entry that a post stores, or the first question that refuses it, over a table with so many places of which these
@@ -113,8 +99,6 @@ pub fn check_cancel(used: &[Place], places: usize, number: u32) -> Result<usize,
         return Err(EntryRefusal::Number);
     }
     let at = place_of(used, number);
-    match cancel_known(place_at(used, at), used.len() < places) {
-        Some(refusal) => Err(refusal),
-        None => Ok(at),
-    }
+    check_state(place_at(used, at), used.len() < places, Ok(()))?;
+    Ok(at)
 }

@@ -31,8 +31,7 @@ impl Settings {
     fn has_rates_in_range(&self) -> bool
         ensures { result ≡ rates_in_range self.now }
     {
-        100 <= self.multiplier
-            && self.multiplier <= 400
+        (100..=400).contains(&self.multiplier)
             && self.credit <= MOST_CREDIT
             && self.floor_rate <= 10_000
     }
@@ -63,7 +62,7 @@ impl Settings {
 pub fn check_opening(places: usize, settings: &Settings) -> Result<(), OpeningRefusal>
     ensures { result ≡ opening_answer places settings.now }
 {
-    if places < 1 || places > MOST_PLACES {
+    if !(1..=MOST_PLACES).contains(&places) {
         return Err(OpeningRefusal::Table);
     }
     if !settings.are_in_range() {

@@ -10,6 +10,7 @@ pub enum RateRefusal {
 
 impl RateRefusal {
     // The number that the refusal carries.
+    // Kept: one match under one definition, since a number that leaves the product stands in one place.
     pub fn number(self) -> u32
         ensures { result ≡ refusal_number self }
     {

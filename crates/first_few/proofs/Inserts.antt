@@ -3,7 +3,7 @@ use Rattle.std.proofs.Common.{◌≡◌, ℕ, zero, suc, ◌+◌, ◌-◌, ◌<�
 use lib.Seq.{take-append-add}
 use Rattle.std.specs.List.{between, prefix_len, AllByRecursion as All}
 use Rattle.std.specs.Cmp.{IsStrictWeakOrder}
-use Rattle.std.proofs.lemmas.List.{drop_more, take_more, append_assoc, set_at, length-take-le, take-take, take_all, take_at, drop_at, length-append}
+use Rattle.std.proofs.lemmas.List.{take_more, append_assoc, set_at, length-take-le, take-take, take_all, take_at, drop_at, length-append}
 use Rattle.std.proofs.lemmas.List.Edits.{length-between}
 use Rattle.std.proofs.ByRecursion.{All-get_or, All-take}
 use Rattle.std.proofs.lemmas.Slice.{between_is}

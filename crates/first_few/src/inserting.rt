@@ -1,6 +1,6 @@
 // One element put in its place among those in order.
 ghost use Rattle.std.specs.Prelude.{◌≡◌, ℕ, ◌+◌, ◌-◌, ◌<◌, ◌≤◌, min, Bool, true, false, not, List, [], ◌∷◌, ◌++◌, length, take, drop, IfSome, slice_index_or};
-ghost use Rattle.std.specs.List.{prefix_len};
+ghost use Rattle.std.specs.List.{between, prefix_len};
 ghost use Rattle.amounts.specs.FirstFew.{keep};
 ghost use Rattle.first_few.specs.Order.{InOrder};
 
@@ -19,9 +19,19 @@ fn last_ahead<T: Order>(part: &[T], x: T) -> Option<usize>
 // How many of `part` stay ahead of `x`.
 fn place_of<T: Order>(part: &[T], x: T) -> usize
     requires { InOrder T.before part.now }
-    ensures { result ≡ prefix_len (λ y. not (T.before x y)) part.now }
+    ensures value { result ≡ prefix_len (λ y. not (T.before x y)) part.now }
+    ensures bound { result ≤ length part.now }
 {
     last_ahead(part, x).map_or(0, |last| last + 1)
+}
+
+// Moves the elements from `from` up to `to` one place on.
+#[tactic(auto, using(crate::proofs::Shifts::copied_is))]
+fn shift<T: Copy>(places: &mut [T], from: usize, to: usize)
+    requires { (from ≤ to) × (to < length places.old) }
+    ensures { places.new ≡ take (from + 1) places.old ++ (between from to places.old ++ drop (to + 1) places.old) }
+{
+    places.copy_within(from..to, from + 1);
 }
 
 // Takes `x` among the first `len` of `places`, and keeps of them as many as there are places.
@@ -39,7 +49,7 @@ pub(crate) fn insert<T: Order>(places: &mut [T], len: usize, x: T) -> usize
         return len;
     }
     let end = (cap - 1).min(len);
-    places.copy_within(at..end, at + 1);
+    shift(places, at, end);
     places[at] = x;
     end + 1
 }

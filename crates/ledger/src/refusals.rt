@@ -6,6 +6,7 @@ use super::terms::{EntryRefusal, OpeningRefusal};
 
 impl OpeningRefusal {
     // The number that the refusal carries.
+    // Kept: one match under one definition, since a number that leaves the product stands in one place.
     pub fn number(self) -> u32
         ensures { result ≡ opening_number self }
     {
@@ -18,6 +19,7 @@ impl OpeningRefusal {
 
 impl EntryRefusal {
     // The number that the refusal carries.
+    // Kept: one match under one definition, since a number that leaves the product stands in one place.
     pub fn number(self) -> u32
         ensures { result ≡ entry_refusal_number self }
     {

@@ -56,6 +56,7 @@ pub struct GivenAmounts {
 
 // What an account is opened with: the multiplier in hundredths, the credit in whole dollars, the floor rate in
 // ten-thousandths, and up to sixteen IPO stocks, 0 for none.
+// Kept: an array of sixteen numbers by value, as the interface lays it down; the engine uses no heap.
 #[derive(Clone, Copy, PartialEq, Eq)]
 pub struct Settings {
     pub multiplier: u32,

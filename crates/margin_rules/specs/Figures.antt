@@ -1,5 +1,5 @@
 -- Figures worked out by hand, over the definitions. Assumes nothing.
-use Rattle.std.specs.Prelude.{◌≡◌, ℕ, ◌*◌, ◌^◌, cond, ◌==◌, List, [], ◌∷◌, replicate, ℤ, pos, neg_ℤ, Some, None, Option, nat_le, ◌&&◌}
+use Rattle.std.specs.Prelude.{◌≡◌, ℕ, ◌*◌, ◌^◌, cond, ◌==◌, List, [], ◌∷◌, replicate, ℤ, pos, neg_ℤ, Some, None, Option}
 use Rattle.amounts.specs.Rounding.{round_up}
 use Rattle.return_source.specs.declared.terms.Entitlement.{Entitlement}
 use Rattle.return_source.specs.declared.terms.EntitlementType.{EntitlementType}

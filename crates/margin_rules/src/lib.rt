@@ -13,6 +13,7 @@ pub use terms::{Assessment, AssessmentRefusal, Holding, Outcome, Room};
 
 impl AssessmentRefusal {
     // The number that the refusal carries.
+    // Kept: one match under one definition, since a number that leaves the product stands in one place.
     pub fn number(self) -> u32
         ensures { result ≡ assessment_refusal_number self }
     {

@@ -26,6 +26,7 @@ pub trait ReturnSource {
 
     // The price of an entitlement and the pair of its short and long percentage, in ten-thousandths and without sign, if
     // the stock has one of that type.
+    // Kept: a price and a pair, as the interface of a return source is laid down, and no struct.
     fn entitlement(&self, kind: EntitlementType, stock: u32) -> Option<(u32, (u32, u32))>
         ensures { result ≡ option_map numbers_of ((meaning self.now).entitlement kind stock) };
 

@@ -78,6 +78,7 @@ pub enum RowRefusal {
 
 impl RowRefusal {
     // The number that the refusal carries.
+    // Kept: one match under one definition, since a number that leaves the product stands in one place.
     pub fn number(self) -> u32
         ensures { result ≡ refusal_number self }
     {

@@ -1,30 +1,14 @@
-use Rattle.std.proofs.Common.{◌≡◌, ◌+◌, ◌-◌, ◌≤◌, not, length, take, drop, set, sym, ap, ◌∙◌, subst, arith}
-use Rattle.std.proofs.lemmas.List.{length-take-le}
-use Rattle.std.proofs.lemmas.List.Sums.{prefix_len-le-length}
+use Rattle.std.proofs.Common.{◌≡◌, ◌+◌, ◌-◌, length, take, drop, set, sym, ap, ◌∙◌, subst, arith}
 use Rattle.first_few.specs.Order.{InOrder}
 use Rattle.first_few.proofs.Inserts.{ranks, keep_none, keep_is, take_written, drop_written, in_order_keep}
-use Rattle.first_few.proofs.Shifts.{moved, copied_is}
+use Rattle.first_few.proofs.Shifts.{moved}
 use Rattle.first_few.proofs.inserting.insert.Goals as goal
-
-pub returns-then-at-cap-clause-count : goal.returns-then-at-cap-clause-count
-returns-then-at-cap-clause-count g c =
-    let old = c.args.places.now in
-    let same : c.args.len - 0 ≡ c.args.len = omega arith in
-    let at = rw same at c.place_of-at.ensures in
-    omega (arith, prefix_len-le-length (λ y. not (g.T.Order.before c.args.x y)) (take c.args.len old), length-take-le c.args.len old c.requires.within)
 
 pub returns-then-at-cap-clause-kept : goal.returns-then-at-cap-clause-kept
 returns-then-at-cap-clause-kept g c =
     let same : c.args.len - 0 ≡ c.args.len = omega arith in
-    let at = rw same at c.place_of-at.ensures in
+    let at = rw same at c.place_of-at.ensures.value in
     keep_none (ranks g.met.T.Order.compares.strict) c.args.x c.args.places.now c.args.len c.place_of-at.result 0 c.requires.within at c.if-at-cap.true
-
-pub copy_within-requires-clause-start_le_end : goal.copy_within-requires-clause-start_le_end
-copy_within-requires-clause-start_le_end g c =
-    let old = c.args.places.now in
-    let same : c.args.len - 0 ≡ c.args.len = omega arith in
-    let at = rw same at c.place_of-at.ensures in
-    omega (arith, prefix_len-le-length (λ y. not (g.T.Order.before c.args.x y)) (take c.args.len old), length-take-le c.args.len old c.requires.within)
 
 pub returns : goal.returns
 returns g c =
@@ -35,10 +19,8 @@ returns g c =
     let at = c.place_of-at.result in
     let end = c.min-end.result in
     let same : c.args.len - 0 ≡ c.args.len = omega arith in
-    let s = rw same at c.place_of-at.ensures in
-    let few = prefix_len-le-length (λ y. not (g.T.Order.before x y)) (take len old) in
-    let long = length-take-le len old c.requires.within in
-    let after : set c.copy_within.new.self at x ≡ set (moved old at end) at x = ap (λ l. set l at x) (c.copy_within.ensures.after ∙ copied_is old at end (omega arith)) in
+    let s = rw same at c.place_of-at.ensures.value in
+    let after : set c.shift.new.places at x ≡ set (moved old at end) at x = ap (λ l. set l at x) c.shift.ensures in
     let kept =
     ap (take (end + 1)) after ∙ take_written o x old len at end c.requires.within s c.if-at-cap.false c.min-end.ensures
     ∙ sym (keep_is o x old len at end c.requires.within s c.if-at-cap.false c.min-end.ensures) in

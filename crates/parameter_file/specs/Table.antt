@@ -8,7 +8,10 @@ use Rattle.parameter_text.specs.Cuts.{cells, spliced, line_of, after_line}
 use Rattle.parameter_rows.specs.Returns.{returns_cells}
 use Rattle.parameter_text.specs.Integers.{integer, stock_cell}
 use Rattle.return_source.specs.declared.terms.ScenarioSet.TheVariants.{Historical, Stress}
+use Rattle.return_source.specs.declared.terms.EntitlementType.{EntitlementType}
 use Rattle.return_source.specs.declared.terms.EntitlementType.TheVariants.{Dsp, Sri, Div}
+use Rattle.return_source.specs.declared.terms.Entitlement.{Entitlement}
+use Rattle.return_source.specs.declared.terms.ScenarioSet.{ScenarioSet}
 use Rattle.return_source.specs.declared.terms.Parameters.{Parameters}
 use Rattle.file_rules.specs.declared.terms.FieldType.{FieldType}
 use Rattle.file_rules.specs.declared.terms.FieldType.TheVariants as field
@@ -40,6 +43,17 @@ aside found.Unread vs = []
 -- the first of two lines, where there may be none before
 abbrev pub first_of : Option ℕ → ℕ → Option ℕ
 first_of before k = or_else before (Some k)
+
+-- where a stock's returns in a set start
+abbrev pub place_in : StockRows → ScenarioSet → Option ℕ
+place_in e Historical = e.historical
+place_in e Stress = e.stress
+
+-- what is kept of a stock's entitlement of a type
+abbrev pub right_kept : StockRows → EntitlementType → Option Entitlement
+right_kept e Dsp = e.dsp
+right_kept e Sri = e.sri
+right_kept e Div = e.div
 
 -- has the stock a row of that kind already
 abbrev pub taken : StockRows → Found → Bool

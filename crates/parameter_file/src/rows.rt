@@ -19,7 +19,7 @@ use parameter_text::{Cells, Question, front_line, stock};
 use return_source::{Parameters, ScenarioSet};
 
 // How many scenarios a set has.
-fn count(p: &Parameters, set: ScenarioSet) -> usize
+pub(crate) fn count(p: &Parameters, set: ScenarioSet) -> usize
     ensures { result ≡ scenario_count p.now set }
 {
     match set {

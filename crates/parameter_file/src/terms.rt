@@ -1,6 +1,10 @@
 // The words of a parameter file's rows.
+ghost use Rattle.std.specs.Prelude.{◌≡◌};
+ghost use Rattle.parameter_file.specs.declared.terms.Refusal.TheVariants as refusal;
+
 use parameter_heading::{Fault, Heading};
 use return_source::{Entitlement, EntitlementType, ScenarioSet};
+use std::alloc::AllocError;
 
 // What a row was found to hold; its returns are kept aside.
 #[derive(Clone, Copy)]
@@ -13,7 +17,7 @@ pub enum Found {
 
 // What a file says of one stock: where its returns are kept, its flat rate, its entitlements, and the line of its first
 // row of returns or rate.
-#[derive(Clone, Copy)]
+#[derive(Clone, Copy, Default)]
 pub struct StockRows {
     pub historical: Option<usize>,
     pub stress: Option<usize>,
@@ -38,4 +42,20 @@ pub struct Summary {
 pub enum Refusal {
     Fault(Fault),
     Memory,
+}
+
+impl From<Fault> for Refusal {
+    ghost from_gives = { λ f r. r ≡ refusal.Fault f };
+
+    fn from(fault: Fault) -> Refusal {
+        Refusal::Fault(fault)
+    }
+}
+
+impl From<AllocError> for Refusal {
+    ghost from_gives = { λ _ r. r ≡ refusal.Memory };
+
+    fn from(_error: AllocError) -> Refusal {
+        Refusal::Memory
+    }
 }

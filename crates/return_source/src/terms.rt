@@ -3,21 +3,21 @@ ghost use Rattle.std.specs.Prelude.{◌≡◌};
 ghost use Rattle.return_source.specs.Refusals.{refusal_number};
 
 // The two sets of scenarios.
-#[derive(Clone, Copy)]
+#[derive(Clone, Copy, PartialEq, Eq)]
 pub enum ScenarioSet {
     Historical,
     Stress,
 }
 
 // How a stock is margined: by its returns in each scenario, or by one rate.
-#[derive(Clone, Copy)]
+#[derive(Clone, Copy, PartialEq, Eq)]
 pub enum Tier {
     Portfolio,
     Flat,
 }
 
 // The kinds of entitlement: a distribution in specie, a rights issue, a cash dividend.
-#[derive(Clone, Copy)]
+#[derive(Clone, Copy, PartialEq, Eq)]
 pub enum EntitlementType {
     Dsp,
     Sri,

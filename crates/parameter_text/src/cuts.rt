@@ -2,6 +2,7 @@
 ghost use Rattle.std.specs.Prelude.{◌≡◌, ℕ, ◌+◌, ◌<◌, ◌≤◌, not, [], ◌∷◌, length, drop, IfNone, MatchOption, ◌==◌};
 ghost use Rattle.std.specs.Option.{option_map};
 ghost use Rattle.std.specs.List.{prefix_len};
+ghost use Rattle.std.specs.Iterator.{YieldsFirstRef, item_count, MakesProgress};
 ghost use Rattle.parameter_text.specs.Cuts.{split, parts_of, cells, all_empty, chomped, line_of, after_line, lines};
 ghost use Rattle.parameter_text.specs.Left.{cells_left, lines_left, text_left};
 
@@ -48,17 +49,7 @@ impl<'a> Cells<'a> {
         ensures cell { MatchOption result (cells_left self.old ≡ []) (λ cell. cells_left self.old ≡ cell.now ∷ cells_left self.new) }
         ensures end { IfNone result (cells_left self.new ≡ []) }
     {
-        let line = self.rest?;
-        match cut_at(line, b',') {
-            Some((cell, after)) => {
-                self.rest = Some(after);
-                Some(cell)
-            }
-            None => {
-                self.rest = None;
-                Some(line)
-            }
-        }
+        self.next()
     }
 
     // The text of the cells that are still to come, if any is.
@@ -82,6 +73,29 @@ impl<'a> Cells<'a> {
             }
         }
         true
+    }
+}
+
+// Gives the cells one after the other. Once the last was given there is none, and from then on there is none.
+impl<'a> Iterator for Cells<'a> {
+    type Item = &'a [u8];
+
+    ghost next_gives = { YieldsFirstRef cells_left };
+
+    ghost remaining = { item_count cells_left };
+
+    fn next(&mut self) -> Option<&'a [u8]> {
+        let line = self.rest?;
+        match cut_at(line, b',') {
+            Some((cell, after)) => {
+                self.rest = Some(after);
+                Some(cell)
+            }
+            None => {
+                self.rest = None;
+                Some(line)
+            }
+        }
     }
 }
 
@@ -136,6 +150,24 @@ impl<'a> Lines<'a> {
     pub fn next_line(&mut self) -> Option<&'a [u8]>
         ensures line { MatchOption result (text_left self.old ≡ []) (λ line. (line.now ≡ line_of (text_left self.old)) × (text_left self.new ≡ after_line (text_left self.old))) }
         ensures left { MatchOption result (lines_left self.old ≡ []) (λ line. lines_left self.old ≡ line.now ∷ lines_left self.new) }
+        ensures end { IfNone result (text_left self.new ≡ []) }
+    {
+        self.next()
+    }
+}
+
+// Gives the lines one after the other, without their ends. At the end of the text there is none, and from then on.
+impl<'a> Iterator for Lines<'a> {
+    type Item = &'a [u8];
+
+    ghost next_gives = { YieldsFirstRef lines_left };
+
+    ghost remaining = { item_count lines_left };
+
+    fn next(&mut self) -> Option<&'a [u8]>
+        ensures steps { YieldsFirstRef lines_left self.old result self.new }
+        ensures goes { MakesProgress (λ _. Unit {0}) (item_count lines_left) self.old result self.new }
+        ensures line { MatchOption result (text_left self.old ≡ []) (λ line. (line.now ≡ line_of (text_left self.old)) × (text_left self.new ≡ after_line (text_left self.old))) }
         ensures end { IfNone result (text_left self.new ≡ []) }
     {
         let (line, rest) = first_line(self.rest)?;

@@ -9,18 +9,14 @@ use Rattle.parameter_heading.specs.declared.terms.Fault.{Fault}
 use Rattle.parameter_heading.specs.declared.terms.Heading.{Heading}
 use Rattle.parameter_heading.specs.Lines.{fault_at}
 use Rattle.parameter_heading.specs.Headings.{heading}
-use Rattle.parameter_heading.specs.Laid.{Sound}
 use Rattle.parameter_file.specs.declared.terms.StockRows.{StockRows}
 use Rattle.return_source.specs.declared.terms.ScenarioSet.TheVariants.{Historical, Stress}
 use Rattle.file_rules.specs.Rows.{Row, File, returns_in, rate_in, first_in, unfit, fault_line, earliest}
 use Rattle.file_rules.specs.Judged.{most_bytes, stock_places, rows_from, if_even, fitting, sized, after_heading, verdict}
-use Rattle.parameter_file.specs.Table.{no_rows, fault_in, Says, Holds, Counts}
+use Rattle.parameter_file.specs.Table.{no_rows, fault_in, Says, Holds}
 use Rattle.parameter_file.specs.Checked.{rows_in, JudgedFile, heading_found, indexes, Indexed}
 use Rattle.parameter_file.proofs.TestLaws.{says_true}
 use Rattle.file_rules.proofs.FileLaws.{earliest_same}
-
-pub counts_of : (h : Heading) → Sound h → Counts h.parameters
-counts_of h s = record { historical_some = s.historical.some; historical_few = s.historical.few; stress_some = s.stress.some; stress_few = s.stress.few }
 
 pub too_short : (bytes : List ℕ) → length bytes ≡ 0 → verdict bytes ≡ Err (fault_at 0 Length)
 too_short bytes e = cond-false (sized bytes) _ _ (and_left (leb 1 (length bytes)) _ (lt-leb 1 (length bytes) (omega arith)))

@@ -6,6 +6,7 @@ ghost use Rattle.file_rules.specs.Laid.{FilesPass};
 ghost use Rattle.parameter_file.specs.Checked.{JudgedFile};
 
 use super::file::Memory;
+use super::rule::RowRule;
 use super::table::earliest_fault;
 use parameter_heading::{Fault, Heading, heading};
 use parameter_text::Question;
@@ -29,7 +30,10 @@ impl Memory {
             });
         }
         let (head, text) = heading(bytes)?;
-        self.take_rows(&head.parameters, text)?;
+        let rule = RowRule {
+            parameters: head.parameters,
+        };
+        self.take_rows(&rule, text)?;
         match earliest_fault(self.table.as_slice()) {
             Some(line) => Err(Fault {
                 question: Question::Tier,

@@ -35,6 +35,7 @@ const PERCENTAGE: DecimalRule = DecimalRule {
 const TYPES: IntegerRule = IntegerRule { low: 1, high: 3 };
 
 // Two things judged side by side: the first question that either fails.
+// Kept: where both fail the sooner question counts, and `?` or `and` would take the first of the two.
 pub(crate) fn both<X: Drop, Y: Drop>(
     a: Result<X, Question>,
     b: Result<Y, Question>,
@@ -70,12 +71,11 @@ fn entitlement_type(cell: &[u8]) -> Result<EntitlementType, Question>
 }
 
 // A flat rate from the cells that are left.
-pub(crate) fn flat_rate(cells: Cells<'_>) -> Result<Found, Question>
+pub(crate) fn flat_rate(mut cells: Cells<'_>) -> Result<Found, Question>
     ensures { seen_as (λ (f : TheFound). held f []) result ≡ rate_content (cells_left cells.entry) }
 {
-    let mut left = cells;
-    let cell = left.next_cell().ok_or(Question::Cells)?;
-    if !left.are_empty() {
+    let cell = cells.next().ok_or(Question::Cells)?;
+    if !cells.are_empty() {
         return Err(Question::Cells);
     }
     size(&RATE, cell).map(Found::Rate)
@@ -92,15 +92,14 @@ fn right(kind: &[u8], price: &[u8], short: &[u8], long: &[u8]) -> Result<Found, 
 }
 
 // An entitlement from the cells that are left.
-pub(crate) fn entitlement(cells: Cells<'_>) -> Result<Found, Question>
+pub(crate) fn entitlement(mut cells: Cells<'_>) -> Result<Found, Question>
     ensures { seen_as (λ (f : TheFound). held f []) result ≡ right_content (cells_left cells.entry) }
 {
-    let mut left = cells;
-    let kind = left.next_cell().ok_or(Question::Cells)?;
-    let price = left.next_cell().ok_or(Question::Cells)?;
-    let short = left.next_cell().ok_or(Question::Cells)?;
-    let long = left.next_cell().ok_or(Question::Cells)?;
-    if !left.are_empty() {
+    let kind = cells.next().ok_or(Question::Cells)?;
+    let price = cells.next().ok_or(Question::Cells)?;
+    let short = cells.next().ok_or(Question::Cells)?;
+    let long = cells.next().ok_or(Question::Cells)?;
+    if !cells.are_empty() {
         return Err(Question::Cells);
     }
     right(kind, price, short, long)

@@ -7,7 +7,6 @@ ghost use Rattle.parameter_file.specs.Checked.{meaning_of, rows_in};
 ghost use Rattle.parameter_file.specs.Table.{no_rows, Says};
 
 use super::file::{CheckedFile, Memory};
-use super::rows::count;
 use super::terms::StockRows;
 use return_source::{Entitlement, EntitlementType, Parameters, ScenarioSet, Tier};
 
@@ -60,7 +59,7 @@ impl<'a> CheckedFile<'a> {
         ensures { option_map (λ x. x.now) result ≡ (meaning_of self.now.bytes.now self.now.heading).returns set stock }
     {
         let start = self.rows_of(stock).returns(set)?;
-        let n = count(&self.heading.parameters, set);
+        let n = self.heading.parameters.scenarios(set).count as usize;
         let kept = self.memory.kept.as_slice();
         Some(&kept[start..start + n])
     }

@@ -1,15 +1,14 @@
 // All rows of a text, one after the other.
 ghost use Rattle.std.specs.Prelude.{◌≡◌, ◌+◌, ◌≤◌, [], length, vec_len, vec_capacity};
 ghost use Rattle.file_rules.specs.Judged.{stock_places, row_at};
-ghost use Rattle.parameter_file.specs.Table.{Blank, Counts};
+ghost use Rattle.parameter_file.specs.Table.{Blank};
 ghost use Rattle.parameter_file.specs.Reading.{TakesRow, TakesRows};
 
 use super::file::Memory;
-use super::rows::read_row;
+use super::rule::RowRule;
 use super::terms::StockRows;
 use parameter_heading::Fault;
 use parameter_text::Question;
-use return_source::Parameters;
 
 // The first line after the heading.
 const FIRST_ROW: u32 = 14;
@@ -38,39 +37,38 @@ impl Memory {
     }
 
     // One row from the front of a text: where the next line starts, or the first question that its line fails.
-    fn take_row(&mut self, p: &Parameters, text: &[u8], line: u32) -> Result<usize, Question>
+    fn take_row(&mut self, rule: &RowRule, text: &[u8], line: u32) -> Result<usize, Question>
         requires room { vec_len self.old.kept + 4000 ≤ vec_capacity self.old.kept }
-        requires counts { Counts p.now }
         requires places { length self.old.table.items ≡ stock_places }
-        ensures row { TakesRow p.now text.now line self.old.kept.items self.new.kept.items self.old.table.items self.new.table.items result }
+        ensures row { TakesRow rule.now.parameters text.now line self.old.kept.items self.new.kept.items self.old.table.items self.new.table.items result }
         ensures room { vec_capacity self.old.kept ≤ vec_capacity self.new.kept }
         ensures places { length self.new.table.items ≡ stock_places }
         ensures length { self.new.length ≡ self.old.length }
     {
         let start = self.kept.len();
-        let (stock, found, next) = read_row(p, text, &mut self.kept)?;
-        let place = stock as usize;
+        let row = rule.read_row(text, &mut self.kept)?;
+        let place = row.stock as usize;
         let rows = self.table[place];
-        if rows.has(found) {
+        if rows.has(row.found) {
             return Err(Question::First);
         }
-        self.table[place] = rows.with(found, start, line);
-        Ok(next)
+        self.table[place] = rows.with(row.found, start, line);
+        Ok(row.next)
     }
 
     // All rows of a text: its returns are then kept, and the table says what the rows say of each stock; or the first fault.
-    pub(crate) fn take_rows(&mut self, p: &Parameters, text: &[u8]) -> Result<(), Fault>
-        requires room { length text.now ≤ self.old.length }
-        requires counts { Counts p.now }
-        ensures rows { TakesRows p.now text.now self.new.kept.items self.new.table.items result }
+    pub(crate) fn take_rows(&mut self, rule: &RowRule, text: &[u8]) -> Result<(), Fault>
+        requires { length text.now ≤ self.old.length }
+        ensures rows { TakesRows rule.now.parameters text.now self.new.kept.items self.new.table.items result }
         ensures places { length self.new.table.items ≡ stock_places }
         ensures length { self.new.length ≡ self.old.length }
     {
         self.clear();
         let mut at: usize = 0;
         let mut line = FIRST_ROW;
+        // Kept: where a row ends is known only once it is read into the memory, so no iterator can give the rows.
         while at < text.len() {
-            at += at_line(self.take_row(p, &text[at..], line), line)?;
+            at += at_line(self.take_row(rule, &text[at..], line), line)?;
             line += 1;
         }
         Ok(())

@@ -2,6 +2,7 @@
 ghost use Rattle.std.specs.Prelude.{◌≡◌};
 ghost use Rattle.parameter_file.specs.declared.terms.Refusal.TheVariants as refusal;
 
+use file_rules::FieldType;
 use parameter_heading::{Fault, Heading};
 use return_source::{Entitlement, EntitlementType, ScenarioSet};
 use std::alloc::AllocError;
@@ -13,6 +14,29 @@ pub enum Found {
     Rate(u32),
     Right(EntitlementType, Entitlement),
     Unread,
+}
+
+// The head of a row: its stock, its kind, and where its third cell starts. A row of two cells has no third.
+#[derive(Clone, Copy)]
+pub struct RowHead {
+    pub stock: u32,
+    pub kind: FieldType,
+    pub cells: Option<usize>,
+}
+
+// What the cells after a row's head were found to hold, and where the next line starts.
+#[derive(Clone, Copy)]
+pub struct FoundCells {
+    pub found: Found,
+    pub next: usize,
+}
+
+// What a row was found to hold, and where the next line starts.
+#[derive(Clone, Copy)]
+pub struct FoundRow {
+    pub stock: u32,
+    pub found: Found,
+    pub next: usize,
 }
 
 // What a file says of one stock: where its returns are kept, its flat rate, its entitlements, and the line of its first

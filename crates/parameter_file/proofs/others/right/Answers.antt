@@ -6,6 +6,7 @@ use Rattle.return_source.specs.declared.terms.Entitlement.{Entitlement}
 use Rattle.return_source.specs.declared.terms.EntitlementType.{EntitlementType}
 use Rattle.file_rules.specs.Rows.{right}
 use Rattle.file_rules.specs.Judged.{type_cell, price_cell, percent_cell, priced}
+use Rattle.parameter_file.proofs.HeadLaws.{both_as}
 use Rattle.parameter_file.proofs.others.right.Goals as goal
 
 by_pairs : {X Y Z : Type 0} (f : X → Y → Z) (r : Result X Question) (s : Result Y Question) → both f r s ≡ seen_as (λ (p : X × Y). f p.0 p.1) (both (λ (x : X) (y : Y). (x, y)) r s)
@@ -13,12 +14,6 @@ by_pairs f (Ok x) (Ok y) = refl
 by_pairs f (Ok x) (Err q) = refl
 by_pairs f (Err p) (Ok y) = refl
 by_pairs f (Err p) (Err q) = refl
-
-both_as : {X Y Z W : Type 0} (f : X → Y → W) (g : Z → Y) (r : Result X Question) (s : Result Z Question) → both f r (seen_as g s) ≡ both (λ (x : X) (z : Z). f x (g z)) r s
-both_as f g (Ok x) (Ok z) = refl
-both_as f g (Ok x) (Err q) = refl
-both_as f g (Err p) (Ok z) = refl
-both_as f g (Err p) (Err q) = refl
 
 pub returns-in_err-kind : goal.returns-in_err-kind
 returns-in_err-kind c =

@@ -5,7 +5,7 @@ use Rattle.parameter_file.proofs.file.Memory.take_rows.Given as goal
 
 abbrev pub invariant-loop-at : goal.invariant-loop-at
 invariant-loop-at l =
-    SomeSoFar l.p l.text l.at l.line (vec_items l.self.kept) (vec_items l.self.table)
+    SomeSoFar l.rule.parameters l.text l.at l.line (vec_items l.self.kept) (vec_items l.self.table)
     × (length (vec_items l.self.table) ≡ stock_places)
     × (l.self.length ≡ l.fn.self.length)
 

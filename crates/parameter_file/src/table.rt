@@ -1,6 +1,6 @@
 // What the check keeps of each stock.
 ghost use Rattle.std.specs.Prelude.{◌≡◌, ◌≤◌, length, slice_index_or};
-ghost use Rattle.file_rules.specs.Rows.{earlier as earlier_of, earliest};
+ghost use Rattle.file_rules.specs.Rows.{earliest};
 ghost use Rattle.parameter_file.specs.Table.{no_rows, taken, noted, fault_in, place_in, right_kept};
 ghost use Rattle.parameter_file.specs.Checked.{in_tier, tier_in, rights_in};
 
@@ -121,23 +121,9 @@ impl StockRows {
     }
 }
 
-fn earlier(a: Option<u32>, b: Option<u32>) -> Option<u32>
-    ensures { result ≡ earlier_of a b }
-{
-    match (a, b) {
-        (None, o) => o,
-        (Some(x), None) => Some(x),
-        (Some(x), Some(y)) => Some(x.min(y)),
-    }
-}
-
 // The earliest line that the last question names.
 pub(crate) fn earliest_fault(table: &[StockRows]) -> Option<u32>
     ensures { result ≡ earliest (λ s. fault_in (slice_index_or table.now s no_rows)) (length table.now) }
 {
-    let mut found = None;
-    for rows in table {
-        found = earlier(found, rows.fault());
-    }
-    found
+    table.iter().filter_map(StockRows::fault).min()
 }

@@ -1,9 +1,12 @@
 -- What a checked file's index says of each stock. Assumes nothing.
-use Rattle.std.proofs.Common.{◌≡◌, ℕ, ◌+◌, ◌<◌, ◌≤◌, Bool, true, false, cond, ◌&&◌, eqb, List, [], ◌∷◌, length, get_or, ℤ, is_some, is_ok, Some, None, Ok, Err, Option, Result, unwrap_or, sym, refl, ap, ◌∙◌, subst, arith}
+use Rattle.std.proofs.Common.{◌≡◌, ℕ, ◌+◌, ◌<◌, ◌≤◌, Bool, true, false, cond, ◌&&◌, eqb, List, [], ◌∷◌, length, get_or, take, drop, ℤ, is_some, is_ok, Some, None, Ok, Err, Option, Result, unwrap_or, sym, refl, ap, ◌∙◌, subst, ⊎_elim, arith}
 use Rattle.std.specs.List.{AllByRecursion as All}
-use Rattle.std.proofs.lemmas.Bool.{true≢false, false≢true, cond-false, ne_eqb, and_left}
+use Rattle.std.proofs.lemmas.Bool.{true≢false, false≢true, cond-false, ne_eqb, and_left, cases_lt}
+use Rattle.std.proofs.lemmas.List.{get_or_past}
 use Rattle.return_source.specs.declared.terms.Parameters.{Parameters}
+use Rattle.return_source.specs.declared.terms.ScenarioSet.{ScenarioSet}
 use Rattle.return_source.specs.declared.terms.ScenarioSet.TheVariants.{Historical, Stress}
+use Rattle.return_source.specs.declared.terms.EntitlementType.{EntitlementType}
 use Rattle.return_source.specs.declared.terms.EntitlementType.TheVariants.{Dsp, Sri, Div}
 use Rattle.parameter_heading.specs.declared.terms.Fault.{Fault}
 use Rattle.parameter_heading.specs.declared.terms.Heading.{Heading}
@@ -12,7 +15,7 @@ use Rattle.file_rules.specs.Rows.{Content, Row, File, returns_in, rate_in, right
 use Rattle.return_source.specs.Lawful.{scenario_count}
 use Rattle.file_rules.specs.Judged.{stock_places, verdict}
 use Rattle.file_rules.specs.Laid.{LaysRows}
-use Rattle.parameter_file.specs.Table.{no_rows, KeptAt, Says}
+use Rattle.parameter_file.specs.Table.{no_rows, place_in, right_kept, KeptAt, Says}
 use Rattle.parameter_file.specs.Checked.{rows_in, heading_in, indexes, Indexed, place_from, Places}
 use Rattle.file_rules.proofs.FileLaws.{passes_down}
 use Rattle.parameter_file.proofs.TestLaws.{says_fact}
@@ -71,3 +74,30 @@ places_at n kept None None k = refl
 places_at n kept None (Some vs) k = absurd (false≢true k.0)
 places_at n kept (Some start) None k = absurd (true≢false k.0)
 places_at n kept (Some start) (Some vs) k = (ap Some k.1, k.2)
+
+-- every stock, of a number that has a place and of one that has none
+pub index_says : (bytes : List ℕ) (kept : List ℤ) (table : List StockRows) (h : Heading) → is_ok (verdict bytes) ≡ true → h ≡ heading_in (verdict bytes) h → length table ≡ stock_places → Indexed bytes kept table → (s : ℕ) → Says h.parameters kept (rows_in (verdict bytes)) s (get_or table s no_rows)
+index_says bytes kept table h ok e size i s =
+    ⊎_elim
+    (λ (l : s < length table). place_says bytes kept table h ok e i s l)
+    (λ (l : length table ≤ s). subst (Says h.parameters kept (rows_in (verdict bytes)) s) (sym (get_or_past table s no_rows l)) (beyond_says bytes kept h.parameters s (omega arith)))
+    (cases_lt s (length table))
+
+-- the returns in a set, and the entitlement of a type
+module _ (p : Parameters) (kept : List ℤ) (rows : List Row) (s : ℕ) (e : StockRows) (h : Says p kept rows s e) where
+  pub returns_said : (w : ScenarioSet) → KeptAt (scenario_count p w) kept (place_in e w) (first_in (returns_in w) rows s)
+  returns_said Historical = h.0
+  returns_said Stress = h.1
+
+  pub right_said : (t : EntitlementType) → right_kept e t ≡ first_in (right_in t) rows s
+  right_said Dsp = h.3
+  right_said Sri = h.4
+  right_said Div = h.5
+
+-- the returns at a place, or none where there is no place
+module _ (n : ℕ) (kept : List ℤ) (place : Option ℕ) (row : Option (List ℤ)) (k : KeptAt n kept place row) where
+  pub none_at : None ≡ place → None ≡ row
+  none_at e = subst (λ (o : Option ℕ). Places kept row (place_from o n)) (sym e) (places_at n kept place row k)
+
+  pub some_at : (start : ℕ) → Some start ≡ place → (Some (take n (drop start kept)) ≡ row) × (start + n ≤ length kept)
+  some_at start e = subst (λ (o : Option ℕ). Places kept row (place_from o n)) (sym e) (places_at n kept place row k)

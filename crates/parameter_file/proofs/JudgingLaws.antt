@@ -1,5 +1,9 @@
 -- The steps of a whole file's judgement. Assumes nothing.
-use Rattle.std.proofs.Common.{◌≡◌, ℕ, ◌<◌, ◌≤◌, Bool, true, cond, leb, List, [], length, get_or, ℤ, is_some, Some, None, Ok, Err, Option, Result, sym, ap, ◌∙◌, subst, arith}
+use Rattle.std.proofs.Common.{◌≡◌, ℕ, zero, suc, ◌<◌, ◌≤◌, min, Bool, true, cond, leb, List, [], ◌∷◌, ◌++◌, length, get_or, take, ℤ, is_some, Some, None, Ok, Err, Option, Result, option_map, sym, refl, ap, ◌∙◌, subst, arith}
+use Rattle.std.specs.List.{fold, reduce, cons_option, filter_map}
+use Rattle.std.proofs.Math.Seq.{take-suc}
+use Rattle.std.proofs.lemmas.List.{append-nil, take_all}
+use Rattle.std.proofs.lemmas.List.Elements.{filter_map-append}
 use Rattle.std.proofs.lemmas.Bool.{cond-true, cond-false, and_from, and_left, and_right, le-leb, lt-leb}
 use Rattle.parameter_text.specs.declared.terms.Question.TheVariants.{Length, Tier}
 use Rattle.parameter_text.specs.Questions.{and_then}
@@ -9,18 +13,14 @@ use Rattle.parameter_heading.specs.declared.terms.Fault.{Fault}
 use Rattle.parameter_heading.specs.declared.terms.Heading.{Heading}
 use Rattle.parameter_heading.specs.Lines.{fault_at}
 use Rattle.parameter_heading.specs.Headings.{heading}
-use Rattle.parameter_heading.specs.Laid.{Sound}
 use Rattle.parameter_file.specs.declared.terms.StockRows.{StockRows}
 use Rattle.return_source.specs.declared.terms.ScenarioSet.TheVariants.{Historical, Stress}
-use Rattle.file_rules.specs.Rows.{Row, File, returns_in, rate_in, first_in, unfit, fault_line, earliest}
+use Rattle.file_rules.specs.Rows.{Row, File, returns_in, rate_in, first_in, unfit, fault_line, earlier, earliest}
 use Rattle.file_rules.specs.Judged.{most_bytes, stock_places, rows_from, if_even, fitting, sized, after_heading, verdict}
-use Rattle.parameter_file.specs.Table.{no_rows, fault_in, Says, Holds, Counts}
+use Rattle.parameter_file.specs.Table.{no_rows, fault_in, Says, Holds}
 use Rattle.parameter_file.specs.Checked.{rows_in, JudgedFile, heading_found, indexes, Indexed}
 use Rattle.parameter_file.proofs.TestLaws.{says_true}
 use Rattle.file_rules.proofs.FileLaws.{earliest_same}
-
-pub counts_of : (h : Heading) → Sound h → Counts h.parameters
-counts_of h s = record { historical_some = s.historical.some; historical_few = s.historical.few; stress_some = s.stress.some; stress_few = s.stress.few }
 
 pub too_short : (bytes : List ℕ) → length bytes ≡ 0 → verdict bytes ≡ Err (fault_at 0 Length)
 too_short bytes e = cond-false (sized bytes) _ _ (and_left (leb 1 (length bytes)) _ (lt-leb 1 (length bytes) (omega arith)))
@@ -37,6 +37,42 @@ fault_is p kept rows s e h =
     ∙ ap (λ (x : Bool). cond (unfit H x (is_some e.rate)) e.line None) h.1.0
     ∙ ap (λ (o : Option ℕ). cond (unfit H T (is_some o)) e.line None) h.2
     ∙ ap (λ (o : Option ℕ). cond (unfit H T F) o None) h.6
+
+-- the least of the lines that the table's stocks name
+
+pub mapped_same : (o : Option ℕ) → o ≡ option_map (λ x. x) o
+mapped_same None = refl
+mapped_same (Some x) = refl
+
+fold_push : (y : ℕ) (ys : List ℕ) (v : ℕ) → fold min y (ys ++ v ∷ []) ≡ min (fold min y ys) v
+fold_push y [] v = refl
+fold_push y (x ∷ xs) v = fold_push (min y x) xs v
+
+least_push : (ys : List ℕ) (v : ℕ) → reduce min (ys ++ v ∷ []) ≡ earlier (reduce min ys) (Some v)
+least_push [] v = refl
+least_push (y ∷ ys) v = ap Some (fold_push y ys v)
+
+earlier_none : (o : Option ℕ) → earlier o None ≡ o
+earlier_none None = refl
+earlier_none (Some x) = refl
+
+least_more : (ys : List ℕ) (o : Option ℕ) → reduce min (ys ++ cons_option o []) ≡ earlier (reduce min ys) o
+least_more ys None = ap (reduce min) (append-nil ys) ∙ sym (earlier_none (reduce min ys))
+least_more ys (Some v) = least_push ys v
+
+module _ (table : List StockRows) where
+  least_below : (n : ℕ) → n ≤ length table → reduce min (filter_map fault_in (take n table)) ≡ earliest (λ s. fault_in (get_or table s no_rows)) n
+  unfolding earliest
+  least_below zero h = refl
+  least_below (suc n) h =
+      let e = get_or table n no_rows in
+      ap (λ (l : List StockRows). reduce min (filter_map fault_in l)) (take-suc table n no_rows h)
+      ∙ ap (reduce min) (filter_map-append fault_in (take n table) (e ∷ []))
+      ∙ least_more (filter_map fault_in (take n table)) (fault_in e)
+      ∙ ap (λ (o : Option ℕ). earlier o (fault_in e)) (least_below n (omega arith))
+
+  pub least_fault : reduce min (filter_map fault_in table) ≡ earliest (λ s. fault_in (get_or table s no_rows)) (length table)
+  least_fault = ap (λ (l : List StockRows). reduce min (filter_map fault_in l)) (sym (take_all (length table) table (omega arith))) ∙ least_below (length table) (omega arith)
 
 -- the earliest fault in the table is the earliest of the rows
 pub fault_found : (p : Parameters) (kept : List ℤ) (table : List StockRows) (rows : List Row) → length table ≡ stock_places → Holds p kept table rows → earliest (λ s. fault_in (get_or table s no_rows)) (length table) ≡ earliest (fault_line rows) stock_places

@@ -1,6 +1,5 @@
 pub mod HeadLaws
 pub mod KeptLaws
-pub mod LineCells
 pub mod TableLaws
 pub mod ReadingLaws
 pub mod TestLaws

@@ -1,8 +1,8 @@
 -- One row more, and all rows. Assumes nothing.
-use Rattle.std.proofs.Common.{◌≡◌, ℕ, ◌+◌, ◌*◌, ◌<◌, ◌≤◌, true, false, List, [], ◌∷◌, ◌++◌, length, get_or, drop, set, ℤ, Ok, Err, Result, sym, refl, ap, ◌∙◌, subst, arith}
+use Rattle.std.proofs.Common.{◌≡◌, ℕ, ◌+◌, ◌*◌, ◌<◌, ◌≤◌, true, false, List, [], ◌∷◌, ◌++◌, length, get_or, drop, set, ℤ, is_ok, Ok, Err, Result, sym, refl, ap, ◌∙◌, subst, arith}
 use Rattle.std.specs.List.{prefix_len}
 use Rattle.std.proofs.lemmas.List.{length-append, length-drop, drop-drop, drop_all}
-use Rattle.std.proofs.lemmas.Bool.{cond-true, cond-false}
+use Rattle.std.proofs.lemmas.Bool.{true≢false, false≢true, cond-true, cond-false}
 use Rattle.parameter_text.specs.declared.terms.Question.{Question}
 use Rattle.parameter_text.specs.declared.terms.Question.TheVariants.{First}
 use Rattle.parameter_text.specs.Questions.{and_then}
@@ -10,6 +10,7 @@ use Rattle.parameter_text.specs.Cuts.{lines, within_line, line_of, after_line}
 use Rattle.parameter_text.proofs.LineLaws.{lines_step}
 use Rattle.parameter_rows.proofs.ReturnLaws.{spell_count}
 use Rattle.return_source.specs.declared.terms.Parameters.{Parameters}
+use Rattle.parameter_heading.specs.declared.terms.Fault.{Fault}
 use Rattle.parameter_heading.specs.Lines.{fault_at}
 use Rattle.parameter_file.specs.declared.terms.Found.{Found}
 use Rattle.parameter_file.specs.declared.terms.Found.TheVariants as found
@@ -106,3 +107,21 @@ module _ (p : Parameters) (text : List ℕ) (at line : ℕ) (kept : List ℤ) (t
 
 pub rows_done : (p : Parameters) (text : List ℕ) (at line : ℕ) (kept : List ℤ) (table : List StockRows) → length text ≤ at → SomeSoFar p text at line kept table → TakesRows p text kept table (Ok tt)
 rows_done p text at line kept table h (rows, s) = (rows, s.said ∙ ap (λ (l : List ℕ). rows_from p line rows (lines l)) (drop_all at text h), s.holds)
+
+-- the fault of a line is the question that was judged on it
+
+abbrev number_in : Result ℕ Fault → ℕ
+number_in (Ok n) = n
+number_in (Err f) = 0
+
+abbrev fault_again : Result ℕ Fault → Result (List Row) Fault
+fault_again (Ok n) = Ok []
+fault_again (Err f) = Err f
+
+pub row_passed : (r : Result ℕ Question) (line n : ℕ) → Ok n ≡ row_at line r → r ≡ Ok n
+row_passed (Ok x) line n e = sym (ap (λ (y : Result ℕ Fault). Ok (number_in y)) e)
+row_passed (Err q) line n e = absurd (true≢false (ap is_ok e))
+
+pub row_failed : (r : Result ℕ Question) (line : ℕ) (f : Fault) → Err f ≡ row_at line r → (q : Question) × (r ≡ Err q) × (◌≡◌ {A = Result (List Row) Fault} (Err f) (Err (fault_at line q)))
+row_failed (Ok x) line f e = absurd (false≢true (ap is_ok e))
+row_failed (Err q) line f e = (q, refl, ap fault_again e)

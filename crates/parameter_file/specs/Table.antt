@@ -1,19 +1,23 @@
 -- What the check keeps of the rows that it has passed: all returns one after the other, and for each stock where its
 -- returns start, its rate, its entitlements and the line of its first row of returns or rate. Assumes nothing.
-use Rattle.std.specs.Prelude.{◌≡◌, ℕ, ◌+◌, ◌*◌, ◌<◌, ◌≤◌, Bool, false, cond, List, [], ◌∷◌, ◌++◌, length, take, drop, ℤ, is_some, Some, None, Ok, Err, Option, Result, ◌≢◌, slice_index_or}
+use Rattle.std.specs.Prelude.{◌≡◌, ℕ, ◌+◌, ◌*◌, ◌<◌, ◌≤◌, Bool, false, cond, List, [], ◌∷◌, ◌++◌, length, take, drop, ℤ, is_some, Some, None, Ok, Err, Option, Result, slice_index_or}
 use Rattle.std.specs.Option.{unwrap_or}
-use Rattle.std.specs.List.{AllByRecursion}
 use Rattle.parameter_text.specs.declared.terms.Question.{Question}
-use Rattle.parameter_text.specs.Cuts.{cells, spliced, line_of, after_line}
+use Rattle.parameter_text.specs.Cuts.{cells, line_of, after_line}
 use Rattle.parameter_rows.specs.Returns.{returns_cells}
 use Rattle.parameter_text.specs.Integers.{integer, stock_cell}
 use Rattle.return_source.specs.declared.terms.ScenarioSet.TheVariants.{Historical, Stress}
+use Rattle.return_source.specs.declared.terms.EntitlementType.{EntitlementType}
 use Rattle.return_source.specs.declared.terms.EntitlementType.TheVariants.{Dsp, Sri, Div}
+use Rattle.return_source.specs.declared.terms.Entitlement.{Entitlement}
+use Rattle.return_source.specs.declared.terms.ScenarioSet.{ScenarioSet}
 use Rattle.return_source.specs.declared.terms.Parameters.{Parameters}
 use Rattle.file_rules.specs.declared.terms.FieldType.{FieldType}
 use Rattle.file_rules.specs.declared.terms.FieldType.TheVariants as field
 use Rattle.parameter_file.specs.declared.terms.Found.{Found}
 use Rattle.parameter_file.specs.declared.terms.Found.TheVariants as found
+use Rattle.parameter_file.specs.declared.terms.FoundCells.{FoundCells}
+use Rattle.parameter_file.specs.declared.terms.FoundRow.{FoundRow}
 use Rattle.parameter_file.specs.declared.terms.StockRows.{StockRows}
 use Rattle.file_rules.specs.Rows.{Content, returns, rate, right, unread, Row, returns_in, rate_in, right_in, or_else, first_in, unfit, first_line}
 use Rattle.return_source.specs.Lawful.{scenario_count}
@@ -40,6 +44,17 @@ aside found.Unread vs = []
 -- the first of two lines, where there may be none before
 abbrev pub first_of : Option ℕ → ℕ → Option ℕ
 first_of before k = or_else before (Some k)
+
+-- where a stock's returns in a set start
+abbrev pub place_in : StockRows → ScenarioSet → Option ℕ
+place_in e Historical = e.historical
+place_in e Stress = e.stress
+
+-- what is kept of a stock's entitlement of a type
+abbrev pub right_kept : StockRows → EntitlementType → Option Entitlement
+right_kept e Dsp = e.dsp
+right_kept e Sri = e.sri
+right_kept e Div = e.div
 
 -- has the stock a row of that kind already
 abbrev pub taken : StockRows → Found → Bool
@@ -96,13 +111,6 @@ Holds p kept table rows = (s : ℕ) → s < length table → Says p kept rows s 
 abbrev pub Blank : List StockRows → Type 0
 Blank table = (s : ℕ) → s < length table → slice_index_or table s no_rows ≡ no_rows
 
--- both sets have 1 to 4,000 scenarios
-pub record Counts (p : Parameters) : Type 0 where
-  pub historical_some : 1 ≤ p.historical.count
-  pub historical_few : p.historical.count ≤ 4000
-  pub stress_some : 1 ≤ p.stress.count
-  pub stress_few : p.stress.count ≤ 4000
-
 -- the cells of a row that holds no returns
 abbrev pub other_content : FieldType → List (List ℕ) → Result Content Question
 other_content (field.Returns w) cs = Ok unread
@@ -125,6 +133,16 @@ Headed text s t n = (c : List ℕ) × (d : List ℕ) × (k : ℕ) × HeadText te
 abbrev pub LineHead : List (List ℕ) → ℕ → FieldType → List (List ℕ) → Type 0
 LineHead all s t cs = (c : List ℕ) × (d : List ℕ) × (all ≡ c ∷ d ∷ cs) × (row_head c d ≡ Ok (s, t))
 
+-- a piece of text begins with the head of a row: its third cell starts at n, or it has two cells alone
+abbrev pub HeadOf : List ℕ → ℕ → FieldType → Option ℕ → Type 0
+HeadOf piece s t (Some n) = Headed piece s t n
+HeadOf piece s t None = LineHead (cells piece) s t []
+
+-- the same of a text, whose line may have two cells alone
+abbrev pub HeadRead : List ℕ → ℕ → FieldType → Option ℕ → Type 0
+HeadRead text s t (Some n) = Headed text s t n
+HeadRead text s t None = LineHead (cells (line_of text)) s t []
+
 -- the head of a row fails this question
 abbrev pub FaultyHead : List (List ℕ) → Question → Type 0
 FaultyHead all q = (p : Parameters) → row_cells p all ≡ Err q
@@ -137,23 +155,9 @@ pub record CellsRead (j : Result Content Question) (text : List ℕ) (before aft
   pub rest : drop next text ≡ after_line text
   pub long : 2 * length (aside f vs) ≤ next + 1
 
-abbrev pub ReadCells : Result Content Question → List ℕ → List ℤ → List ℤ → Result (Found × ℕ) Question → Type 0
-ReadCells j text before after (Ok r) = (vs : List ℤ) × CellsRead j text before after r.0 r.1 vs
+abbrev pub ReadCells : Result Content Question → List ℕ → List ℤ → List ℤ → Result FoundCells Question → Type 0
+ReadCells j text before after (Ok r) = (vs : List ℤ) × CellsRead j text before after r.found r.next vs
 ReadCells j text before after (Err q) = j ≡ Err q
-
--- a cell has no LF
-abbrev pub OneLine : List ℕ → Type 0
-OneLine c = AllByRecursion (λ x. x ≢ 10) c
-
--- the cells after the head were judged: what they hold, and what was kept of them
-pub record CellsJudged (j : Result Content Question) (cs : List (List ℕ)) (before after : List ℤ) (f : Found) (vs : List ℤ) : Type 0 where
-  pub said : j ≡ Ok (held f vs)
-  pub kept : after ≡ before ++ aside f vs
-  pub long : 2 * length (aside f vs) ≤ length (spliced 44 cs) + 1
-
-abbrev pub JudgedCells : Result Content Question → List (List ℕ) → List ℤ → List ℤ → Result Found Question → Type 0
-JudgedCells j cs before after (Ok f) = (vs : List ℤ) × CellsJudged j cs before after f vs
-JudgedCells j cs before after (Err q) = j ≡ Err q
 
 -- a row was read from the front of a text
 pub record RowRead (p : Parameters) (text : List ℕ) (before after : List ℤ) (s : ℕ) (f : Found) (next : ℕ) (vs : List ℤ) : Type 0 where
@@ -163,8 +167,8 @@ pub record RowRead (p : Parameters) (text : List ℕ) (before after : List ℤ) 
   pub rest : drop next text ≡ after_line text
   pub long : 2 * length (aside f vs) ≤ next
 
-abbrev pub ReadRow : Parameters → List ℕ → List ℤ → List ℤ → Result (ℕ × Found × ℕ) Question → Type 0
-ReadRow p text before after (Ok r) = (vs : List ℤ) × RowRead p text before after r.0 r.1 r.2 vs
+abbrev pub ReadRow : Parameters → List ℕ → List ℤ → List ℤ → Result FoundRow Question → Type 0
+ReadRow p text before after (Ok r) = (vs : List ℤ) × RowRead p text before after r.stock r.found r.next vs
 ReadRow p text before after (Err q) = row_line p (line_of text) ≡ Err q
 
 -- n returns were read from the front of a text and kept after those before

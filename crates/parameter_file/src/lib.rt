@@ -8,6 +8,7 @@ mod others;
 mod questions;
 mod reading;
 mod rows;
+mod rule;
 mod source;
 mod states;
 mod summary;

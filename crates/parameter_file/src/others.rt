@@ -35,6 +35,7 @@ const PERCENTAGE: DecimalRule = DecimalRule {
 const TYPES: IntegerRule = IntegerRule { low: 1, high: 3 };
 
 // Two things judged side by side: the first question that either fails.
+// Kept: where both fail the sooner question counts, and `?` or `and` would take the first of the two.
 pub(crate) fn both<X: Drop, Y: Drop>(
     a: Result<X, Question>,
     b: Result<Y, Question>,
@@ -55,38 +56,29 @@ fn size(rule: &DecimalRule, cell: &[u8]) -> Result<u32, Question>
     requires high { unsigned_abs rule.now.high ≤ 99990000 }
     ensures { result ≡ seen_as unsigned_abs (decimal (place_count rule.now.places) rule.now.low rule.now.high cell.now) }
 {
-    match rule.value(cell) {
-        Ok(v) => Ok(v.unsigned_abs() as u32),
-        Err(q) => Err(q),
-    }
+    Ok(rule.value(cell)?.unsigned_abs() as u32)
 }
 
+// The type of entitlement that a cell writes.
 fn entitlement_type(cell: &[u8]) -> Result<EntitlementType, Question>
     ensures { result ≡ type_cell cell.now }
 {
-    match TYPES.number(cell) {
-        Ok(1) => Ok(EntitlementType::Dsp),
-        Ok(2) => Ok(EntitlementType::Sri),
-        Ok(_) => Ok(EntitlementType::Div),
-        Err(q) => Err(q),
-    }
+    TYPES.number(cell).map(|number| match number {
+        1 => EntitlementType::Dsp,
+        2 => EntitlementType::Sri,
+        _ => EntitlementType::Div,
+    })
 }
 
 // A flat rate from the cells that are left.
-pub(crate) fn flat_rate(cells: Cells<'_>) -> Result<Found, Question>
+pub(crate) fn flat_rate(mut cells: Cells<'_>) -> Result<Found, Question>
     ensures { seen_as (λ (f : TheFound). held f []) result ≡ rate_content (cells_left cells.entry) }
 {
-    let mut left = cells;
-    let Some(cell) = left.next_cell() else {
-        return Err(Question::Cells);
-    };
-    if !left.are_empty() {
+    let cell = cells.next().ok_or(Question::Cells)?;
+    if !cells.are_empty() {
         return Err(Question::Cells);
     }
-    match size(&RATE, cell) {
-        Ok(n) => Ok(Found::Rate(n)),
-        Err(q) => Err(q),
-    }
+    size(&RATE, cell).map(Found::Rate)
 }
 
 // An entitlement by its four cells.
@@ -95,33 +87,19 @@ fn right(kind: &[u8], price: &[u8], short: &[u8], long: &[u8]) -> Result<Found, 
 {
     let percentages = both(size(&PERCENTAGE, short), size(&PERCENTAGE, long));
     let priced = both(size(&PRICE, price), percentages);
-    match both(entitlement_type(kind), priced) {
-        Ok((kind, (price, (short, long)))) => Ok(Found::Right(
-            kind,
-            Entitlement { price, short, long },
-        )),
-        Err(q) => Err(q),
-    }
+    let (kind, (price, (short, long))) = both(entitlement_type(kind), priced)?;
+    Ok(Found::Right(kind, Entitlement { price, short, long }))
 }
 
 // An entitlement from the cells that are left.
-pub(crate) fn entitlement(cells: Cells<'_>) -> Result<Found, Question>
+pub(crate) fn entitlement(mut cells: Cells<'_>) -> Result<Found, Question>
     ensures { seen_as (λ (f : TheFound). held f []) result ≡ right_content (cells_left cells.entry) }
 {
-    let mut left = cells;
-    let Some(kind) = left.next_cell() else {
-        return Err(Question::Cells);
-    };
-    let Some(price) = left.next_cell() else {
-        return Err(Question::Cells);
-    };
-    let Some(short) = left.next_cell() else {
-        return Err(Question::Cells);
-    };
-    let Some(long) = left.next_cell() else {
-        return Err(Question::Cells);
-    };
-    if !left.are_empty() {
+    let kind = cells.next().ok_or(Question::Cells)?;
+    let price = cells.next().ok_or(Question::Cells)?;
+    let short = cells.next().ok_or(Question::Cells)?;
+    let long = cells.next().ok_or(Question::Cells)?;
+    if !cells.are_empty() {
         return Err(Question::Cells);
     }
     right(kind, price, short, long)

@@ -6,7 +6,8 @@ ghost use Rattle.file_rules.specs.Laid.{FilesPass};
 ghost use Rattle.parameter_file.specs.Checked.{check_answer, file_of};
 
 use super::file::{CheckedFile, Memory, Received};
-use super::judging::{MOST_BYTES, STOCK_PLACES, judge};
+use super::judging::MOST_BYTES;
+use super::reading::STOCK_PLACES;
 use parameter_heading::Fault;
 use std::alloc::{AllocError, Global};
 
@@ -38,15 +39,9 @@ impl<'a> Received<'a> {
         requires { min (length text.now) most_bytes ≤ memory.length }
         ensures bytes { result.bytes.now ≡ text.now }
     {
-        let Memory {
-            length: _,
-            kept,
-            table,
-        } = memory;
         Received {
             bytes: text,
-            kept,
-            table,
+            memory,
             found: None,
         }
     }
@@ -62,13 +57,9 @@ impl<'a> Received<'a> {
     {
         self.found = None;
         let bytes = self.bytes;
-        match judge(bytes, &mut self.kept, &mut self.table) {
-            Ok(heading) => {
-                self.found = Some(heading);
-                Ok(())
-            }
-            Err(fault) => Err(fault),
-        }
+        let heading = self.memory.judge(bytes)?;
+        self.found = Some(heading);
+        Ok(())
     }
 
     // The checked file, once the check has passed.
@@ -79,15 +70,13 @@ impl<'a> Received<'a> {
     {
         let Received {
             bytes,
-            kept,
-            table,
+            memory,
             found,
         } = self;
         CheckedFile {
             bytes,
             heading: found.unwrap(),
-            kept,
-            table,
+            memory,
         }
     }
 }

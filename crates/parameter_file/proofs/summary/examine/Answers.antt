@@ -2,5 +2,5 @@
 use Rattle.file_rules.proofs.FileLaws.{files_pass}
 use Rattle.parameter_file.proofs.summary.examine.Goals as goal
 
-pub returns-in-Err : goal.returns-in-Err
-returns-in-Err c = record { answer = tt; law = files_pass }
+pub returns-in_err-memory-clause-law : goal.returns-in_err-memory-clause-law
+returns-in_err-memory-clause-law c = files_pass

@@ -1,17 +1,12 @@
-use Rattle.std.proofs.Common.{ℕ, get_or, Option, sym, ap, ◌∙◌}
-use Rattle.file_rules.specs.Rows.{earlier, earliest}
-use Rattle.parameter_file.specs.Table.{no_rows, fault_in}
-use Rattle.file_rules.proofs.FileLaws.{earliest_zero, earliest_more}
+use Rattle.std.proofs.Common.{◌∙◌, rules}
+use Rattle.std.proofs.lemmas.Iterator.{YieldsList-from_slice}
+use Rattle.std.proofs.lemmas.Iterator.Consumers.{YieldsList-from_filter_map, min_from_yields_List}
+use Rattle.parameter_file.specs.Table.{fault_in}
+use Rattle.parameter_file.proofs.JudgingLaws.{least_fault, mapped_same}
 use Rattle.parameter_file.proofs.table.earliest_fault.Goals as goal
 
-pub loop-rows-init : goal.loop-rows-init
-loop-rows-init c = sym (earliest_zero _)
-
-pub loop-rows-preserved : goal.loop-rows-preserved
-loop-rows-preserved c =
-    let f : ℕ → Option ℕ = λ s. fault_in (get_or c.args.table.now s no_rows) in
-    let i = c.loop-rows.rows-index in
-    c.earlier-found.ensures
-    ∙ ap (λ (o : Option ℕ). earlier o c.fault.result) c.loop-rows.invariant
-    ∙ ap (earlier (earliest f i)) c.fault.ensures
-    ∙ sym (earliest_more f i)
+pub returns : goal.returns
+returns c =
+    mapped_same c.min.result
+    ∙ min_from_yields_List _ _ c.min.ensures.ran (YieldsList-from_filter_map _ fault_in (YieldsList-from_slice c.args.table.now cc) c.filter_map.ensures.closure (λ x r q k. search rules))
+    ∙ least_fault c.args.table.now

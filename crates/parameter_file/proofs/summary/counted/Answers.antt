@@ -4,7 +4,7 @@ use Rattle.return_source.specs.declared.terms.Tier.TheVariants.{Portfolio, Flat}
 use Rattle.parameter_file.specs.Table.{no_rows}
 use Rattle.parameter_file.specs.Checked.{tally, yes, in_tier, tier_in, rights_in}
 use Rattle.parameter_file.proofs.SummaryLaws.{tally_zero, tally_more, yes_byte}
-use Rattle.parameter_file.proofs.summary.counts.Goals as goal
+use Rattle.parameter_file.proofs.summary.counted.Goals as goal
 
 pub loop-rows-init : goal.loop-rows-init
 loop-rows-init c = (sym (tally_zero _), sym (tally_zero _), sym (tally_zero _), omega arith, omega arith, omega arith)
@@ -21,8 +21,8 @@ loop-rows-preserved c =
     let v = c.loop-rows.invariant in (
       ap (λ (n : ℕ). n + bool_byte c.is_in.result) v.0 ∙ ap (λ (n : ℕ). tally p i + n) (a.0 ∙ ap yes c.is_in.ensures) ∙ sym (tally_more p i),
       ap (λ (n : ℕ). n + bool_byte c.is_in-in-loop-rows.result) v.1 ∙ ap (λ (n : ℕ). tally f i + n) (b.0 ∙ ap yes c.is_in-in-loop-rows.ensures) ∙ sym (tally_more f i),
-      ap (λ (n : ℕ). n + c.rights-rights.result) v.2 ∙ ap (λ (n : ℕ). tally g i + n) c.rights-rights.ensures.value ∙ sym (tally_more g i),
+      ap (λ (n : ℕ). n + c.rights-entitlements.result) v.2 ∙ ap (λ (n : ℕ). tally g i + n) c.rights-entitlements.ensures.value ∙ sym (tally_more g i),
       omega (arith, v.3, a.1),
       omega (arith, v.4, b.1),
-      omega (arith, v.5, c.rights-rights.ensures.few),
+      omega (arith, v.5, c.rights-entitlements.ensures.few),
     )

@@ -3,8 +3,7 @@
 
 use desk::{CsvFault, CsvSummary, FaultReport, Form, Request, SummaryReport};
 use parameter_file::{Refusal, examine};
-use program::{NotDone, arguments, front_of};
-use std::fmt::Display;
+use program::{NotDone, Program};
 use std::process::ExitCode;
 
 // The program's name, before what it says on standard error.
@@ -35,52 +34,34 @@ prints    checked
 const MOST_BYTES: u64 = 67_108_864 + 1;
 
 fn main(rt: HostRuntime) -> ExitCode {
-    match run(&rt) {
+    let program = Program {
+        rt: &rt,
+        name: NAME,
+    };
+    match run(&program) {
         Ok(()) => ExitCode::SUCCESS,
         Err(NotDone) => ExitCode::FAILURE,
     }
 }
 
 // Does what the arguments ask for.
-fn run(rt: &HostRuntime) -> Result<(), NotDone> {
-    let words = match arguments(rt) {
-        Ok(words) => words,
-        Err(error) => {
-            return Err(not_done(rt, format_args!("the arguments cannot be read: {error}")));
-        }
-    };
-    match Request::from_words(words.as_slice()) {
-        Ok(Request::Help) => print(rt, format_args!("{USAGE}\n\n{HELP}")),
-        Ok(Request::Check { form, path }) => check(rt, form, path),
-        Err(error) => Err(not_done(rt, format_args!("{error}\n{USAGE}"))),
+fn run(program: &Program<'_>) -> Result<(), NotDone> {
+    let words = program.arguments()?;
+    let request = Request::from_words(words.as_slice())
+        .map_err(|error| program.not_done(format_args!("{error}\n{USAGE}")))?;
+    match request {
+        Request::Help => program.print(format_args!("{USAGE}\n\n{HELP}")),
+        Request::Check { form, path } => check(program, form, path),
     }
 }
 
-fn check(rt: &HostRuntime, form: Form, path: &str) -> Result<(), NotDone> {
-    let bytes = match front_of(rt, path, MOST_BYTES) {
-        Ok(bytes) => bytes,
-        Err(error) => return Err(not_done(rt, format_args!("{path}: {error}"))),
-    };
-    match examine(bytes.as_slice(), rt.alloc()) {
-        Ok(summary) => match form {
-            Form::Report => print(rt, SummaryReport(&summary)),
-            Form::Csv => print(rt, CsvSummary(&summary)),
-        },
+fn check(program: &Program<'_>, form: Form, path: &str) -> Result<(), NotDone> {
+    let bytes = program.front_of(path, MOST_BYTES)?;
+    match examine(bytes.as_slice(), program.rt.alloc()) {
+        Ok(summary) => program.print_in(form, SummaryReport(&summary), CsvSummary(&summary)),
         Err(Refusal::Fault(fault)) => {
-            match form {
-                Form::Report => print(rt, FaultReport(&fault))?,
-                Form::Csv => print(rt, CsvFault(&fault))?,
-            }
-            Err(NotDone)
+            Err(program.refused(form, FaultReport(&fault), CsvFault(&fault)))
         }
-        Err(Refusal::Memory) => Err(not_done(rt, format_args!("{path}: not enough memory"))),
+        Err(Refusal::Memory) => Err(program.not_done(format_args!("{path}: not enough memory"))),
     }
-}
-
-fn print<D: Display + Drop>(rt: &HostRuntime, answer: D) -> Result<(), NotDone> {
-    program::print(rt, NAME, answer)
-}
-
-fn not_done<D: Display + Drop>(rt: &HostRuntime, why: D) -> NotDone {
-    program::not_done(rt, NAME, why)
 }

@@ -14,14 +14,12 @@ use margin_desk::{
     Answer, AnswerCounts, AnswerReport, AssessmentText, CountsReport, CsvAnswer, CsvRefused,
     Journals, MarginCall, Refused, RefusedReport, Request, Source,
 };
-use margin_files::{Calls, JournalCall, check_journal, read_settings};
+use margin_files::{Calls, FormFault, JournalCall, check_journal, read_settings};
 use margin_rules::{Holding, Outcome};
 use parameter_file::{Memory, Received};
-use parameter_heading::Fault;
-use program::{NotDone, arguments, front_of};
+use program::{NotDone, Program};
 use return_source::ReturnSource;
 use std::alloc::{AllocError, Global};
-use std::fmt::Display;
 use std::process::ExitCode;
 
 // The program's name, before what it says on standard error.
@@ -69,179 +67,197 @@ const PLACES_TOO_MANY: usize = 4096 + 1;
 const HOLDINGS_TOO_MANY: usize = 64 + 1;
 
 fn main(rt: HostRuntime) -> ExitCode {
-    match run(&rt) {
+    let program = Program {
+        rt: &rt,
+        name: NAME,
+    };
+    match run(&program) {
         Ok(()) => ExitCode::SUCCESS,
         Err(NotDone) => ExitCode::FAILURE,
     }
 }
 
 // Does what the arguments ask for.
-fn run(rt: &HostRuntime) -> Result<(), NotDone> {
-    let words = match arguments(rt) {
-        Ok(words) => words,
-        Err(error) => {
-            return Err(not_done(rt, format_args!("the arguments cannot be read: {error}")));
-        }
-    };
-    match Request::from_words(words.as_slice()) {
-        Ok(Request::Help) => print(rt, format_args!("{USAGE}\n\n{HELP}")),
-        Ok(Request::Call(wanted)) => margin_call(rt, &wanted),
-        Err(error) => Err(not_done(rt, format_args!("{error}\n{USAGE}"))),
+fn run(program: &Program<'_>) -> Result<(), NotDone> {
+    let words = program.arguments()?;
+    let request = Request::from_words(words.as_slice())
+        .map_err(|error| program.not_done(format_args!("{error}\n{USAGE}")))?;
+    match request {
+        Request::Help => program.print(format_args!("{USAGE}\n\n{HELP}")),
+        Request::Call(wanted) => margin_call(program, &wanted),
     }
 }
 
 // First the form of the settings and of every journal, then the source, and then the day.
-fn margin_call(rt: &HostRuntime, wanted: &MarginCall<'_>) -> Result<(), NotDone> {
-    let settings = settings(rt, wanted.settings)?;
-    let journals = journals(rt, wanted.journals)?;
+fn margin_call(program: &Program<'_>, wanted: &MarginCall<'_>) -> Result<(), NotDone> {
+    let settings = settings(program, wanted.settings)?;
+    let journals = journals(program, wanted.journals)?;
+    let day = Day {
+        program,
+        wanted,
+        settings,
+        journals: journals.as_slice(),
+    };
     match wanted.source {
         Source::File(path) => {
-            let bytes = bytes_of(rt, path, MOST_FILE_BYTES)?;
-            over_file(rt, wanted, &settings, &journals, path, bytes.as_slice())
+            let bytes = program.front_of(path, MOST_FILE_BYTES)?;
+            day.over_file(path, bytes.as_slice())
         }
-        Source::Rate(rate) => match FallbackSource::new(rate) {
-            Ok(source) => day(rt, wanted, settings, &journals, &source),
-            Err(refusal) => Err(refused(rt, wanted.form, Refused::Rate(refusal))),
-        },
+        Source::Rate(rate) => {
+            let source =
+                FallbackSource::new(rate).map_err(|refusal| day.refused(Refused::Rate(refusal)))?;
+            day.over(&source)
+        }
     }
 }
 
 // The settings of a file.
-fn settings(rt: &HostRuntime, path: &str) -> Result<Settings, NotDone> {
-    let bytes = bytes_of(rt, path, MOST_SETTINGS_BYTES)?;
-    match read_settings(bytes.as_slice()) {
-        Ok(settings) => Ok(settings),
-        Err(fault) => {
-            let line = fault.line;
-            Err(not_done(
-                rt,
-                format_args!("{path}, line {line}: this is no line that a settings file has here"),
-            ))
-        }
-    }
+fn settings(program: &Program<'_>, path: &str) -> Result<Settings, NotDone> {
+    let bytes = program.front_of(path, MOST_SETTINGS_BYTES)?;
+    read_settings(bytes.as_slice()).map_err(|FormFault { line }| {
+        program.not_done(format_args!(
+            "{path}, line {line}: this is no line that a settings file has here"
+        ))
+    })
 }
 
 // The journals' bytes, each checked whole.
-fn journals(rt: &HostRuntime, names: Journals<'_>) -> Result<Vec<Vec<u8>>, NotDone> {
+fn journals(program: &Program<'_>, names: Journals<'_>) -> Result<Vec<Vec<u8>>, NotDone> {
     let mut left = names;
-    let mut journals = Vec::new(rt.alloc());
+    let mut journals = Vec::new(program.rt.alloc());
     while let Some(path) = left.next_name() {
-        let journal = journal(rt, path)?;
-        if journals.push(journal).is_err() {
-            return Err(no_memory(rt));
-        }
+        journals
+            .push(journal(program, path)?)
+            .map_err(|_| no_memory(program))?;
     }
     Ok(journals)
 }
 
-fn journal(rt: &HostRuntime, path: &str) -> Result<Vec<u8>, NotDone> {
-    let bytes = bytes_of(rt, path, u64::MAX)?;
-    match check_journal(bytes.as_slice()) {
-        Ok(_) => Ok(bytes),
-        Err(fault) => {
-            let line = fault.line;
-            Err(not_done(
-                rt,
-                format_args!("{path}, line {line}: this is neither a post nor a cancel"),
-            ))
-        }
-    }
+fn journal(program: &Program<'_>, path: &str) -> Result<Vec<u8>, NotDone> {
+    let bytes = program.front_of(path, u64::MAX)?;
+    check_journal(bytes.as_slice()).map_err(|FormFault { line }| {
+        program.not_done(format_args!(
+            "{path}, line {line}: this is neither a post nor a cancel"
+        ))
+    })?;
+    Ok(bytes)
 }
 
-// The day over a parameter file, where that passes its check.
-fn over_file(
-    rt: &HostRuntime,
-    wanted: &MarginCall<'_>,
-    settings: &Settings,
-    journals: &Vec<Vec<u8>>,
-    path: &str,
-    bytes: &[u8],
-) -> Result<(), NotDone> {
-    let Ok(memory) = Memory::for_file(bytes.len(), rt.alloc()) else {
-        return Err(not_done(rt, format_args!("{path}: not enough memory")));
-    };
-    let mut file = Received::new(bytes, memory);
-    match file.check() {
-        Ok(()) => day(rt, wanted, *settings, journals, &file.checked()),
-        Err(fault) => Err(refused_file(rt, wanted.form, &fault)),
-    }
+fn no_memory(program: &Program<'_>) -> NotDone {
+    program.not_done("not enough memory")
 }
 
-// Opens the account, applies the journals, closes it and assesses it.
-fn day<S: ReturnSource>(
-    rt: &HostRuntime,
-    wanted: &MarginCall<'_>,
+// A day to work out: the program, what is asked of it, the account's settings, and the journals, each checked whole.
+#[derive(Clone, Copy)]
+struct Day<'a> {
+    program: &'a Program<'a>,
+    wanted: &'a MarginCall<'a>,
     settings: Settings,
-    journals: &Vec<Vec<u8>>,
-    source: &S,
-) -> Result<(), NotDone> {
-    let Ok(mut table) = filled(rt.alloc(), wanted.places.min(PLACES_TOO_MANY), Place::Free) else {
-        return Err(no_memory(rt));
-    };
-    if let Err(refusal) = check_open(table.as_slice(), &settings) {
-        return Err(refused(rt, wanted.form, Refused::Opening(refusal)));
-    }
-    let mut account = open(table.as_mut_slice(), settings);
-    let counts = apply(rt, wanted, journals, &mut account)?;
-    assess(rt, wanted, source, &account.close(), &counts)
+    journals: &'a [Vec<u8>],
 }
 
-// Applies the journals, each from its first line to its last, and counts the answers.
-fn apply(
-    rt: &HostRuntime,
-    wanted: &MarginCall<'_>,
-    journals: &Vec<Vec<u8>>,
-    account: &mut OpenAccount<'_>,
-) -> Result<AnswerCounts, NotDone>
-    ensures places { OnOk result (take account.new.used account.new.table.now ≡ places_after (length account.old.table.now) (all_calls (map (λ v. v.items) journals.now.items)) (take account.old.used account.old.table.now)) }
-    ensures room { length account.new.table.now ≡ length account.old.table.now }
-    ensures settings { account.new.settings ≡ account.old.settings }
-{
-    let mut counts = AnswerCounts::new();
-    for (index, journal) in journals.iter().enumerate() {
-        apply_journal(
-            rt,
-            wanted,
-            index + 1,
-            journal.as_slice(),
-            account,
-            &mut counts,
-        )?;
+impl Day<'_> {
+    // The day over a parameter file, where that passes its check.
+    fn over_file(&self, path: &str, bytes: &[u8]) -> Result<(), NotDone> {
+        let memory = Memory::for_file(bytes.len(), self.program.rt.alloc())
+            .map_err(|_| self.program.not_done(format_args!("{path}: not enough memory")))?;
+        let mut file = Received::new(bytes, memory);
+        file.check().map_err(|fault| {
+            self.program
+                .refused(self.wanted.form, FaultReport(&fault), CsvFault(&fault))
+        })?;
+        self.over(&file.checked())
     }
-    Ok(counts)
-}
 
-fn apply_journal(
-    rt: &HostRuntime,
-    wanted: &MarginCall<'_>,
-    journal: usize,
-    text: &[u8],
-    account: &mut OpenAccount<'_>,
-    counts: &mut AnswerCounts,
-) -> Result<(), NotDone>
-    ensures places { OnOk result (take account.new.used account.new.table.now ≡ places_after (length account.old.table.now) (journal_calls text.now) (take account.old.used account.old.table.now)) }
-    ensures room { length account.new.table.now ≡ length account.old.table.now }
-    ensures settings { account.new.settings ≡ account.old.settings }
-{
-    let mut calls = Calls::new(text);
-    let mut line: usize = 0;
-    while let Some(call) = calls.next_call() {
-        line = line.saturating_add(1);
-        let answer = answer(account, call);
-        counts.count(&answer);
-        if wanted.trace {
-            trace(
-                rt,
-                wanted.form,
-                Answer {
-                    journal,
-                    line,
-                    answer,
-                },
-            )?;
+    // Opens the account, applies the journals, closes it and assesses it.
+    fn over<S: ReturnSource>(&self, source: &S) -> Result<(), NotDone> {
+        let places = self.wanted.places.min(PLACES_TOO_MANY);
+        let mut table = vec![in self.program.rt.alloc(); Place::Free; places]
+            .map_err(|_| no_memory(self.program))?;
+        check_open(table.as_slice(), &self.settings)
+            .map_err(|refusal| self.refused(Refused::Opening(refusal)))?;
+        let mut account = open(table.as_mut_slice(), self.settings);
+        let counts = self.apply(&mut account)?;
+        self.assess(source, &account.close(), &counts)
+    }
+
+    // Applies the journals, each from its first line to its last, and counts the answers.
+    fn apply(&self, account: &mut OpenAccount<'_>) -> Result<AnswerCounts, NotDone>
+        ensures places { OnOk result (take account.new.used account.new.table.now ≡ places_after (length account.old.table.now) (all_calls (map (λ v. v.items) self.now.journals.now)) (take account.old.used account.old.table.now)) }
+        ensures room { length account.new.table.now ≡ length account.old.table.now }
+        ensures settings { account.new.settings ≡ account.old.settings }
+    {
+        let mut counts = AnswerCounts::new();
+        for (index, journal) in self.journals.iter().enumerate() {
+            self.apply_journal(index + 1, journal.as_slice(), account, &mut counts)?;
         }
+        Ok(counts)
     }
-    Ok(())
+
+    fn apply_journal(
+        &self,
+        journal: usize,
+        text: &[u8],
+        account: &mut OpenAccount<'_>,
+        counts: &mut AnswerCounts,
+    ) -> Result<(), NotDone>
+        ensures places { OnOk result (take account.new.used account.new.table.now ≡ places_after (length account.old.table.now) (journal_calls text.now) (take account.old.used account.old.table.now)) }
+        ensures room { length account.new.table.now ≡ length account.old.table.now }
+        ensures settings { account.new.settings ≡ account.old.settings }
+    {
+        for (index, call) in Calls::new(text).enumerate() {
+            let answer = answer(account, call);
+            counts.count(&answer);
+            if self.wanted.trace {
+                self.trace(Answer {
+                    journal,
+                    line: index + 1,
+                    answer,
+                })?;
+            }
+        }
+        Ok(())
+    }
+
+    fn trace(&self, answer: Answer) -> Result<(), NotDone> {
+        self.program
+            .print_in(self.wanted.form, AnswerReport(answer), CsvAnswer(answer))
+    }
+
+    // Assesses the closed account, and prints the answer; for people also how often each answer was given to the journals.
+    fn assess<S: ReturnSource>(
+        &self,
+        source: &S,
+        account: &ClosedAccount<'_>,
+        counts: &AnswerCounts,
+    ) -> Result<(), NotDone> {
+        let mut sheets =
+            Sheets::for_source(source, self.wanted.holdings, self.program.rt.alloc())
+                .map_err(|_| no_memory(self.program))?;
+        let answer = account.assess(
+            source,
+            sheets.totals.as_mut_slice(),
+            sheets.row.as_mut_slice(),
+            sheets.tail.as_mut_slice(),
+            sheets.holdings.as_mut_slice(),
+        );
+        if let Form::Report = self.wanted.form {
+            let counts = CountsReport(counts);
+            self.program.print(format_args!("{counts}\n"))?;
+        }
+        let figures = answer.map_err(|refusal| self.refused(Refused::Assessment(refusal)))?;
+        self.program.print(AssessmentText {
+            figures: &figures,
+            holdings: sheets.holdings.as_slice(),
+            form: self.wanted.form,
+        })
+    }
+
+    // Prints why the whole call is refused.
+    fn refused(&self, why: Refused) -> NotDone {
+        self.program
+            .refused(self.wanted.form, RefusedReport(why), CsvRefused(why))
+    }
 }
 
 // Makes one call of a journal.
@@ -254,13 +270,6 @@ fn answer(account: &mut OpenAccount<'_>, call: JournalCall) -> Result<u32, Entry
     match call {
         JournalCall::Post(posting) => account.post(posting),
         JournalCall::Cancel { number } => account.cancel(number),
-    }
-}
-
-fn trace(rt: &HostRuntime, form: Form, answer: Answer) -> Result<(), NotDone> {
-    match form {
-        Form::Report => print(rt, AnswerReport(answer)),
-        Form::Csv => print(rt, CsvAnswer(answer)),
     }
 }
 
@@ -298,100 +307,10 @@ impl Sheets {
             market_value: 0,
         };
         Ok(Sheets {
-            totals: filled(heap, historical.count as usize + stress.count as usize, 0)?,
-            row: filled(heap, historical.count.max(stress.count) as usize, 0)?,
-            tail: filled(heap, historical.tail.max(stress.tail) as usize, no_outcome)?,
-            holdings: filled(heap, holdings.min(HOLDINGS_TOO_MANY), no_holding)?,
+            totals: vec![in heap; 0; historical.count as usize + stress.count as usize]?,
+            row: vec![in heap; 0; historical.count.max(stress.count) as usize]?,
+            tail: vec![in heap; no_outcome; historical.tail.max(stress.tail) as usize]?,
+            holdings: vec![in heap; no_holding; holdings.min(HOLDINGS_TOO_MANY)]?,
         })
     }
-}
-
-// So many places, each with the same value.
-fn filled<T: Copy + Drop>(heap: Global, places: usize, value: T) -> Result<Vec<T>, AllocError>
-    ensures { IfOk result (λ v. vec_len v ≡ places) }
-{
-    let mut values = Vec::new(heap);
-    values.resize(places, value)?;
-    Ok(values)
-}
-
-// Assesses the closed account, and prints the answer; for people also how often each answer was given to the journals.
-fn assess<S: ReturnSource>(
-    rt: &HostRuntime,
-    wanted: &MarginCall<'_>,
-    source: &S,
-    account: &ClosedAccount<'_>,
-    counts: &AnswerCounts,
-) -> Result<(), NotDone> {
-    let Ok(mut sheets) = Sheets::for_source(source, wanted.holdings, rt.alloc()) else {
-        return Err(no_memory(rt));
-    };
-    let answer = account.assess(
-        source,
-        sheets.totals.as_mut_slice(),
-        sheets.row.as_mut_slice(),
-        sheets.tail.as_mut_slice(),
-        sheets.holdings.as_mut_slice(),
-    );
-    if let Form::Report = wanted.form {
-        let counts = CountsReport(counts);
-        print(rt, format_args!("{counts}\n"))?;
-    }
-    match answer {
-        Ok(figures) => print(
-            rt,
-            AssessmentText {
-                figures: &figures,
-                holdings: sheets.holdings.as_slice(),
-                form: wanted.form,
-            },
-        ),
-        Err(refusal) => Err(refused(rt, wanted.form, Refused::Assessment(refusal))),
-    }
-}
-
-// Prints why the whole call is refused.
-fn refused(rt: &HostRuntime, form: Form, why: Refused) -> NotDone {
-    let printed = match form {
-        Form::Report => print(rt, RefusedReport(why)),
-        Form::Csv => print(rt, CsvRefused(why)),
-    };
-    done_with(printed)
-}
-
-// Prints why the parameter file is refused.
-fn refused_file(rt: &HostRuntime, form: Form, fault: &Fault) -> NotDone {
-    let printed = match form {
-        Form::Report => print(rt, FaultReport(fault)),
-        Form::Csv => print(rt, CsvFault(fault)),
-    };
-    done_with(printed)
-}
-
-// A refused call is not done, whether its refusal could be printed or not.
-fn done_with(printed: Result<(), NotDone>) -> NotDone {
-    match printed {
-        Ok(()) => NotDone,
-        Err(not_done) => not_done,
-    }
-}
-
-// The bytes of a file, or so many of the first ones.
-fn bytes_of(rt: &HostRuntime, path: &str, most: u64) -> Result<Vec<u8>, NotDone> {
-    match front_of(rt, path, most) {
-        Ok(bytes) => Ok(bytes),
-        Err(error) => Err(not_done(rt, format_args!("{path}: {error}"))),
-    }
-}
-
-fn no_memory(rt: &HostRuntime) -> NotDone {
-    not_done(rt, "not enough memory")
-}
-
-fn print<D: Display + Drop>(rt: &HostRuntime, answer: D) -> Result<(), NotDone> {
-    program::print(rt, NAME, answer)
-}
-
-fn not_done<D: Display + Drop>(rt: &HostRuntime, why: D) -> NotDone {
-    program::not_done(rt, NAME, why)
 }

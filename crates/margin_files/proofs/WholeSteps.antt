@@ -1,6 +1,8 @@
 -- Whole numbers taken from cells one after the other. Assumes nothing.
-use Rattle.std.proofs.Common.{◌≡◌, ℕ, List, [], ◌∷◌, ℤ, Some, None, Option, refl, ap, ◌∙◌}
+use Rattle.std.proofs.Common.{◌≡◌, ℕ, Bool, List, [], ◌∷◌, ℤ, Some, None, Option, MatchOption, is_some, not, true, false, refl, ap, ◌∙◌}
+use denote.Ref.{Bor}
 use Rattle.std.specs.Option.{option_map, option_and_then}
+use Rattle.std.specs.Bool.{then_some}
 use Rattle.margin_files.specs.Numbers.{whole_number}
 use Rattle.margin_files.specs.Wholes.{in_front, wholes, first_whole}
 
@@ -48,3 +50,10 @@ module _ {Y : Type 0} (f : List ℤ → Option Y) where
   -- a cell where none may stand
   pub wholes_over : ((z : ℤ) (zs : List ℤ) → f (z ∷ zs) ≡ None) → (cs : List (List ℕ)) (c : List ℕ) (rest : List (List ℕ)) → cs ≡ c ∷ rest → option_and_then f (wholes cs) ≡ None
   wholes_over n cs c rest e = rw e (none_over n (whole_number c) (wholes rest))
+
+  -- whether no cell is left where the numbers end
+  pub wholes_ended : {y : Y} → f [] ≡ Some y → ((z : ℤ) (zs : List ℤ) → f (z ∷ zs) ≡ None) → (o : Option (Bor (List ℕ))) (end : Bool) (cs rest : List (List ℕ)) → is_some o ≡ not end → MatchOption o ((cs ≡ []) × (rest ≡ [])) (λ c. cs ≡ c.now ∷ rest) → option_and_then f (wholes cs) ≡ then_some end y
+  wholes_ended e n None true cs rest is s = wholes_end cs s.0 ∙ e
+  wholes_ended e n (Some c) false cs rest is s = wholes_over n cs c.now rest s
+  wholes_ended e n None false cs rest is s = absurd (let z : false ≡ true = is in cc)
+  wholes_ended e n (Some c) true cs rest is s = absurd (let z : true ≡ false = is in cc)

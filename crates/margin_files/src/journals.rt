@@ -1,12 +1,12 @@
 // A journal: one call upon an account on each line.
-ghost use Rattle.std.specs.Prelude.{◌≡◌, [], ◌∷◌, Some, None, MatchOption};
+ghost use Rattle.std.specs.Prelude.{◌≡◌, Some, None, MatchOption};
+ghost use Rattle.std.specs.Iterator.{YieldsFirst, item_count};
 ghost use Rattle.parameter_text.specs.Cuts.{lines as lines_of};
 ghost use Rattle.parameter_text.specs.Left.{cells_left};
 ghost use Rattle.margin_files.specs.Wholes.{first_whole};
 ghost use Rattle.margin_files.specs.Journals.{posting_in, cancelled_in, call_of_line, calls_of, calls_left, journal_check};
 
 use super::numbers::{in_u32, whole_number};
-use super::settings_file::is_same;
 use super::terms::{FormFault, JournalCall};
 use ledger::Posting;
 use parameter_text::{Cells, Lines};
@@ -15,7 +15,7 @@ use parameter_text::{Cells, Lines};
 fn next_whole(cells: &mut Cells<'_>) -> Option<i64>
     ensures { MatchOption result (first_whole (cells_left cells.old) ≡ None) (λ z. first_whole (cells_left cells.old) ≡ Some (z, cells_left cells.new)) }
 {
-    whole_number(cells.next_cell()?)
+    whole_number(cells.next()?)
 }
 
 // The entry that the cells behind `post` write.
@@ -29,17 +29,14 @@ fn posting(cells: Cells<'_>) -> Option<Posting>
     let quantity = next_whole(&mut left)?;
     let contract_value = next_whole(&mut left)?;
     let market_value = next_whole(&mut left)?;
-    match left.next_cell() {
-        Some(_) => None,
-        None => Some(Posting {
-            number: in_u32(number),
-            kind: in_u32(kind),
-            stock: in_u32(stock),
-            quantity,
-            contract_value,
-            market_value,
-        }),
-    }
+    left.next().is_none().then_some(Posting {
+        number: in_u32(number),
+        kind: in_u32(kind),
+        stock: in_u32(stock),
+        quantity,
+        contract_value,
+        market_value,
+    })
 }
 
 // The number that the cells behind `cancel` write.
@@ -48,10 +45,7 @@ fn cancelled(cells: Cells<'_>) -> Option<u32>
 {
     let mut left = cells;
     let number = next_whole(&mut left)?;
-    match left.next_cell() {
-        Some(_) => None,
-        None => Some(in_u32(number)),
-    }
+    left.next().is_none().then_some(in_u32(number))
 }
 
 // The call that a line writes.
@@ -60,15 +54,10 @@ fn call(line: &[u8]) -> Option<JournalCall>
     ensures { result ≡ call_of_line line.now }
 {
     let mut cells = Cells::new(line);
-    let name = cells.next_cell()?;
-    if is_same(name, b"post") {
-        Some(JournalCall::Post(posting(cells)?))
-    } else if is_same(name, b"cancel") {
-        Some(JournalCall::Cancel {
-            number: cancelled(cells)?,
-        })
-    } else {
-        None
+    match cells.next()? {
+        b"post" => posting(cells).map(JournalCall::Post),
+        b"cancel" => cancelled(cells).map(|number| JournalCall::Cancel { number }),
+        _ => None,
     }
 }
 
@@ -76,15 +65,12 @@ fn call(line: &[u8]) -> Option<JournalCall>
 pub fn check_journal(text: &[u8]) -> Result<usize, FormFault>
     ensures { result ≡ journal_check (lines_of text.now) }
 {
-    let mut lines = Lines::new(text);
-    let mut count = 0;
-    while let Some(line) = lines.next_line() {
-        if call(line).is_none() {
-            return Err(FormFault { line: count + 1 });
-        }
-        count += 1;
+    let calls = Calls::new(text).count();
+    if calls == Lines::new(text).count() {
+        Ok(calls)
+    } else {
+        Err(FormFault { line: calls + 1 })
     }
-    Ok(count)
 }
 
 // The calls of a journal that are still to come: all of them where the journal passed its check, else those before its first
@@ -103,17 +89,21 @@ impl<'a> Calls<'a> {
             lines: Lines::new(text),
         }
     }
+}
 
-    // The next call, or none where all were given; from then on there is none.
-    pub fn next_call(&mut self) -> Option<JournalCall>
-        ensures { MatchOption result ((calls_left self.old ≡ []) × (calls_left self.new ≡ [])) (λ call. calls_left self.old ≡ call ∷ calls_left self.new) }
-    {
-        if let Some(line) = self.lines.next_line() {
-            if let Some(call) = call(line) {
-                return Some(call);
-            }
+// Gives the calls one after the other. Once all were given there is none, and from then on there is none.
+impl Iterator for Calls<'_> {
+    type Item = JournalCall;
+
+    ghost next_gives = { YieldsFirst calls_left };
+
+    ghost remaining = { item_count calls_left };
+
+    fn next(&mut self) -> Option<JournalCall> {
+        let call = self.lines.next().and_then(call);
+        if call.is_none() {
+            self.lines = Lines::new(b"");
         }
-        self.lines = Lines::new(b"");
-        None
+        call
     }
 }

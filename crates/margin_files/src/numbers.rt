@@ -81,11 +81,7 @@ pub(crate) fn four_places(cell: &[u8]) -> Option<i64>
 fn hundreds(number: i64) -> Option<i64>
     ensures { result ≡ hundreds_of number }
 {
-    if number % 100 == 0 {
-        Some(number / 100)
-    } else {
-        None
-    }
+    (number % 100 == 0).then_some(number / 100)
 }
 
 // The decimal of at most two places that a cell writes, in hundredths.
@@ -100,18 +96,14 @@ pub(crate) fn two_places(cell: &[u8]) -> Option<i64>
 pub(crate) fn in_u32(number: i64) -> u32
     ensures { result ≡ or_greatest 4294967295 number }
 {
-    if number < 0 || number > u32::MAX as i64 {
-        u32::MAX
-    } else {
-        number as u32
-    }
+    u32::try_from(number).unwrap_or(u32::MAX)
 }
 
 // The same for amounts.
 pub(crate) fn in_u64(number: i64) -> u64
     ensures { result ≡ or_greatest 18446744073709551615 number }
 {
-    if number < 0 { u64::MAX } else { number as u64 }
+    u64::try_from(number).unwrap_or(u64::MAX)
 }
 
 // The rate in ten-thousandths that a text writes, if it is a decimal of at most four places. A rate that does not fit becomes

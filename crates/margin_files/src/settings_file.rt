@@ -1,11 +1,9 @@
 // A settings file: nine lines, each a name and its value, in a fixed order.
 ghost use Rattle.std.specs.Prelude.{◌≡◌, option_map};
-ghost use Rattle.std.specs.Str.{bytes_eq};
 ghost use Rattle.parameter_text.specs.Cuts.{lines as lines_of};
 ghost use Rattle.parameter_text.specs.Left.{cells_left};
-ghost use Rattle.margin_files.specs.Numbers.{whole_number as whole_number_of, two_places as two_places_of, four_places as four_places_of};
 ghost use Rattle.margin_files.specs.Files.{line_at as line_at_of, cells_behind as cells_behind_of, cells_at as cells_at_of, value_at as value_at_of, one_cell};
-ghost use Rattle.margin_files.specs.Settings.{read_at, amount_at as amount_at_of, hundredths_at as hundredths_at_of, ten_thousandths_at as ten_thousandths_at_of, rates_in, given_in, ipo_stocks as ipo_stocks_of, ipo_in, settings_of};
+ghost use Rattle.margin_files.specs.Settings.{amount_at as amount_at_of, hundredths_at as hundredths_at_of, ten_thousandths_at as ten_thousandths_at_of, rates_in, given_in, ipo_stocks as ipo_stocks_of, ipo_in, settings_of};
 
 use super::numbers::{four_places, in_u32, in_u64, two_places, whole_number};
 use super::terms::FormFault;
@@ -15,6 +13,58 @@ use parameter_text::{Cells, Lines};
 // How many IPO stocks there may be.
 const MOST_IPO: usize = 16;
 
+// A field of a settings file: the number of its line, counted from 1, and the name in front of its value.
+#[derive(Clone, Copy)]
+struct Field {
+    line: usize,
+    name: &'static [u8],
+}
+
+const MULTIPLIER: Field = Field {
+    line: 1,
+    name: b"Multiplier",
+};
+
+const CREDIT: Field = Field {
+    line: 2,
+    name: b"Credit",
+};
+
+const FLOOR_RATE: Field = Field {
+    line: 3,
+    name: b"Floor_Rate",
+};
+
+const LIQUIDATION: Field = Field {
+    line: 4,
+    name: b"Liquidation",
+};
+
+const STRUCTURED_PRODUCT: Field = Field {
+    line: 5,
+    name: b"Structured_Product",
+};
+
+const POSITION_LIMIT: Field = Field {
+    line: 6,
+    name: b"Position_Limit",
+};
+
+const CREDIT_RISK: Field = Field {
+    line: 7,
+    name: b"Credit_Risk",
+};
+
+const AD_HOC: Field = Field {
+    line: 8,
+    name: b"Ad_Hoc",
+};
+
+const IPO: Field = Field {
+    line: 9,
+    name: b"IPO",
+};
+
 // The first three settings.
 #[derive(Clone, Copy)]
 struct Rates {
@@ -23,22 +73,11 @@ struct Rates {
     floor_rate: u32,
 }
 
-// Are two texts the same?
-pub(crate) fn is_same(a: &[u8], b: &[u8]) -> bool
-    ensures { result ≡ bytes_eq a.now b.now }
-{
-    a == b
-}
-
 // The line of a number, counted from 1.
 fn line_at(text: &[u8], number: usize) -> Option<&[u8]>
     ensures { option_map (λ x. x.now) result ≡ line_at_of number (lines_of text.now) }
 {
-    let mut lines = Lines::new(text);
-    for k in 0..number.saturating_sub(1) {
-        lines.next_line()?;
-    }
-    lines.next_line()
+    Lines::new(text).nth(number.saturating_sub(1))
 }
 
 // The cells of a line behind its name.
@@ -46,98 +85,74 @@ fn cells_behind<'a>(line: &'a [u8], name: &[u8]) -> Option<Cells<'a>>
     ensures { option_map cells_left result ≡ cells_behind_of name.now line.now }
 {
     let mut cells = Cells::new(line);
-    if is_same(cells.next_cell()?, name) {
-        Some(cells)
-    } else {
-        None
-    }
-}
-
-// The cells behind the name on the line of a number.
-#[tactic(auto, unfolding(crate::specs::Files::cells_at))]
-fn cells_at<'a>(text: &'a [u8], number: usize, name: &[u8]) -> Option<Cells<'a>>
-    ensures { option_map cells_left result ≡ cells_at_of number name.now (lines_of text.now) }
-{
-    let line = line_at(text, number)?;
-    cells_behind(line, name)
+    (cells.next()? == name).then_some(cells)
 }
 
 // The only cell that is left.
-fn only_cell<'a>(cells: Cells<'a>) -> Option<&'a [u8]>
+fn only_cell(cells: Cells<'_>) -> Option<&[u8]>
     ensures { option_map (λ x. x.now) result ≡ one_cell (cells_left cells.entry) }
 {
     let mut left = cells;
-    let cell = left.next_cell()?;
-    match left.next_cell() {
-        None => Some(cell),
-        Some(_) => None,
+    let cell = left.next()?;
+    left.next().is_none().then_some(cell)
+}
+
+impl Field {
+    // That the field's line does not have its form.
+    fn fault(self) -> FormFault
+        ensures { result.line ≡ self.line }
+    {
+        FormFault { line: self.line }
     }
-}
 
-// The value behind the name on the line of a number.
-#[tactic(auto, unfolding(crate::specs::Files::value_at))]
-fn value_at<'a>(text: &'a [u8], number: usize, name: &[u8]) -> Option<&'a [u8]>
-    ensures { option_map (λ x. x.now) result ≡ value_at_of number name.now (lines_of text.now) }
-{
-    let cells = cells_at(text, number, name)?;
-    only_cell(cells)
-}
-
-// A whole number on a line.
-#[tactic(auto, unfolding(crate::specs::Settings::read_at))]
-fn whole_at(text: &[u8], number: usize, name: &[u8]) -> Result<i64, FormFault>
-    ensures { result ≡ read_at whole_number_of number name.now (lines_of text.now) }
-{
-    match value_at(text, number, name) {
-        Some(value) => whole_number(value).ok_or(FormFault { line: number }),
-        None => Err(FormFault { line: number }),
+    // The cells behind the name.
+    #[tactic(auto, unfolding(crate::specs::Files::cells_at))]
+    fn cells<'a>(self, text: &'a [u8]) -> Option<Cells<'a>>
+        ensures { option_map cells_left result ≡ cells_at_of self.line self.name.now (lines_of text.now) }
+    {
+        cells_behind(line_at(text, self.line)?, self.name)
     }
-}
 
-// A decimal of at most two places on a line, in hundredths.
-#[tactic(auto, unfolding(crate::specs::Settings::read_at))]
-fn two_places_at(text: &[u8], number: usize, name: &[u8]) -> Result<i64, FormFault>
-    ensures { result ≡ read_at two_places_of number name.now (lines_of text.now) }
-{
-    match value_at(text, number, name) {
-        Some(value) => two_places(value).ok_or(FormFault { line: number }),
-        None => Err(FormFault { line: number }),
+    // The value behind the name.
+    #[tactic(auto, unfolding(crate::specs::Files::value_at))]
+    fn value<'a>(self, text: &'a [u8]) -> Option<&'a [u8]>
+        ensures { option_map (λ x. x.now) result ≡ value_at_of self.line self.name.now (lines_of text.now) }
+    {
+        only_cell(self.cells(text)?)
     }
-}
 
-// A decimal of at most four places on a line, in ten-thousandths.
-#[tactic(auto, unfolding(crate::specs::Settings::read_at))]
-fn four_places_at(text: &[u8], number: usize, name: &[u8]) -> Result<i64, FormFault>
-    ensures { result ≡ read_at four_places_of number name.now (lines_of text.now) }
-{
-    match value_at(text, number, name) {
-        Some(value) => four_places(value).ok_or(FormFault { line: number }),
-        None => Err(FormFault { line: number }),
+    // The value as an amount.
+    #[tactic(auto, unfolding(crate::specs::Settings::amount_at, crate::specs::Settings::read_at))]
+    fn amount(self, text: &[u8]) -> Result<u64, FormFault>
+        ensures { result ≡ amount_at_of self.line self.name.now (lines_of text.now) }
+    {
+        self.value(text)
+            .and_then(whole_number)
+            .map(in_u64)
+            .ok_or(self.fault())
     }
-}
 
-// An amount on a line.
-#[tactic(auto, unfolding(crate::specs::Settings::amount_at))]
-fn amount_at(text: &[u8], number: usize, name: &[u8]) -> Result<u64, FormFault>
-    ensures { result ≡ amount_at_of number name.now (lines_of text.now) }
-{
-    Ok(in_u64(whole_at(text, number, name)?))
-}
+    // The value, a decimal of at most two places, in hundredths.
+    #[tactic(auto, unfolding(crate::specs::Settings::hundredths_at, crate::specs::Settings::read_at))]
+    fn hundredths(self, text: &[u8]) -> Result<u32, FormFault>
+        ensures { result ≡ hundredths_at_of self.line self.name.now (lines_of text.now) }
+    {
+        self.value(text)
+            .and_then(two_places)
+            .map(in_u32)
+            .ok_or(self.fault())
+    }
 
-// Hundredths on a line.
-#[tactic(auto, unfolding(crate::specs::Settings::hundredths_at))]
-fn hundredths_at(text: &[u8], number: usize, name: &[u8]) -> Result<u32, FormFault>
-    ensures { result ≡ hundredths_at_of number name.now (lines_of text.now) }
-{
-    Ok(in_u32(two_places_at(text, number, name)?))
-}
-
-// Ten-thousandths on a line.
-#[tactic(auto, unfolding(crate::specs::Settings::ten_thousandths_at))]
-fn ten_thousandths_at(text: &[u8], number: usize, name: &[u8]) -> Result<u32, FormFault>
-    ensures { result ≡ ten_thousandths_at_of number name.now (lines_of text.now) }
-{
-    Ok(in_u32(four_places_at(text, number, name)?))
+    // The value, a decimal of at most four places, in ten-thousandths.
+    #[tactic(auto, unfolding(crate::specs::Settings::ten_thousandths_at, crate::specs::Settings::read_at))]
+    fn ten_thousandths(self, text: &[u8]) -> Result<u32, FormFault>
+        ensures { result ≡ ten_thousandths_at_of self.line self.name.now (lines_of text.now) }
+    {
+        self.value(text)
+            .and_then(four_places)
+            .map(in_u32)
+            .ok_or(self.fault())
+    }
 }
 
 // Lines 1 to 3.
@@ -146,9 +161,9 @@ fn read_rates(text: &[u8]) -> Result<Rates, FormFault>
     ensures { result ≡ rates_in (lines_of text.now) }
 {
     Ok(Rates {
-        multiplier: hundredths_at(text, 1, b"Multiplier")?,
-        credit: amount_at(text, 2, b"Credit")?,
-        floor_rate: ten_thousandths_at(text, 3, b"Floor_Rate")?,
+        multiplier: MULTIPLIER.hundredths(text)?,
+        credit: CREDIT.amount(text)?,
+        floor_rate: FLOOR_RATE.ten_thousandths(text)?,
     })
 }
 
@@ -158,11 +173,11 @@ fn read_given(text: &[u8]) -> Result<GivenAmounts, FormFault>
     ensures { result ≡ given_in (lines_of text.now) }
 {
     Ok(GivenAmounts {
-        liquidation: amount_at(text, 4, b"Liquidation")?,
-        structured_product: amount_at(text, 5, b"Structured_Product")?,
-        position_limit: amount_at(text, 6, b"Position_Limit")?,
-        credit_risk: amount_at(text, 7, b"Credit_Risk")?,
-        ad_hoc: amount_at(text, 8, b"Ad_Hoc")?,
+        liquidation: LIQUIDATION.amount(text)?,
+        structured_product: STRUCTURED_PRODUCT.amount(text)?,
+        position_limit: POSITION_LIMIT.amount(text)?,
+        credit_risk: CREDIT_RISK.amount(text)?,
+        ad_hoc: AD_HOC.amount(text)?,
     })
 }
 
@@ -170,28 +185,23 @@ fn read_given(text: &[u8]) -> Result<GivenAmounts, FormFault>
 fn ipo_stocks(cells: Cells<'_>) -> Option<[u32; 16]>
     ensures { result ≡ ipo_stocks_of (cells_left cells.entry) }
 {
-    let mut left = cells;
     let mut stocks = [0; 16];
-    for k in 0..MOST_IPO {
-        match left.next_cell() {
-            Some(cell) => stocks[k] = in_u32(whole_number(cell)?),
-            None => return Some(stocks),
+    // One cell more shows that there are too many.
+    for (place, cell) in cells.take(MOST_IPO + 1).enumerate() {
+        if place == MOST_IPO {
+            return None;
         }
+        stocks[place] = in_u32(whole_number(cell)?);
     }
-    match left.next_cell() {
-        Some(_) => None,
-        None => Some(stocks),
-    }
+    Some(stocks)
 }
 
+// Line 9.
 #[tactic(auto, unfolding(crate::specs::Settings::ipo_in))]
 fn read_ipo(text: &[u8]) -> Result<[u32; 16], FormFault>
     ensures { result ≡ ipo_in (lines_of text.now) }
 {
-    match cells_at(text, 9, b"IPO") {
-        Some(cells) => ipo_stocks(cells).ok_or(FormFault { line: 9 }),
-        None => Err(FormFault { line: 9 }),
-    }
+    IPO.cells(text).and_then(ipo_stocks).ok_or(IPO.fault())
 }
 
 // The settings that a file lays down, or its first line that does not have its form. A value out of its range is handed on to

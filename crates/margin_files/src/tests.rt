@@ -24,7 +24,7 @@ fn first_call(text: &[u8]) -> Posting {
         contract_value: 0,
         market_value: 0,
     };
-    match left.next_call() {
+    match left.next() {
         Some(JournalCall::Post(posting)) => posting,
         Some(JournalCall::Cancel { number }) => Posting { number, ..none },
         None => none,

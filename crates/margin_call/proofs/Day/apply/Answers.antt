@@ -2,7 +2,7 @@ use Rattle.std.proofs.Common.{Vec, Global, ◌≡◌, ◌<◌, ℕ, List, [], le
 use Rattle.std.proofs.lemmas.List.{drop_all, length-map, get_or-map}
 use Rattle.margin_call.specs.Applied.{places_after, journal_calls, all_calls}
 use Rattle.margin_call.proofs.AppliedLaws.{after_journal}
-use Rattle.margin_call.proofs.apply.Goals as goal
+use Rattle.margin_call.proofs.Day.apply.Goals as goal
 
 abbrev bytes_in : Vec ℕ Global → List ℕ
 bytes_in v = v.items
@@ -18,16 +18,16 @@ returns-in_err-apply_journal-clause-settings c = c.apply_journal.ensures.setting
 
 pub loop-index-preserved : goal.loop-index-preserved
 loop-index-preserved c =
-    let here : c.as_slice.result.now ≡ get_or (map bytes_in c.deref-journal-items.result.now) c.loop-index.index [] = c.as_slice.ensures.value ∙ ap bytes_in c.journal-item.is ∙ sym (get_or-map bytes_in c.deref-journal-items.result.now c.loop-index.index _ [] (omega arith)) in
+    let here : c.as_slice.result.now ≡ get_or (map bytes_in c.args.self.now.journals.now) c.loop-index.index [] = c.as_slice.ensures.value ∙ ap bytes_in c.journal-item.is ∙ sym (get_or-map bytes_in c.args.self.now.journals.now c.loop-index.index _ [] (omega arith)) in
     let done : take c.apply_journal.new.account.used c.apply_journal.new.account.table.now ≡ places_after (length c.args.account.now.table.now) (journal_calls c.as_slice.result.now) (take c.loop-index.account.used c.loop-index.account.table.now) = c.in_ok-apply_journal.ensures.places ∙ ap (λ (n : ℕ). places_after n (journal_calls c.as_slice.result.now) (take c.loop-index.account.used c.loop-index.account.table.now)) c.loop-index.invariant.room in
-    let within : ◌<◌ c.loop-index.index (length (map bytes_in c.deref-journal-items.result.now)) = omega (arith, length-map c.deref-journal-items.result.now bytes_in) in
+    let within : ◌<◌ c.loop-index.index (length (map bytes_in c.args.self.now.journals.now)) = omega (arith, length-map c.args.self.now.journals.now bytes_in) in
     record { applied = after_journal _ _ _ _ _ _ within here done ∙ c.loop-index.invariant.applied; room = c.apply_journal.ensures.room ∙ c.loop-index.invariant.room; settings = c.apply_journal.ensures.settings ∙ c.loop-index.invariant.settings }
 
 pub returns-clause-places : goal.returns-clause-places
 returns-clause-places c =
-    let all = map bytes_in c.deref-journal-items.result.now in
-    let none : drop c.loop-index.index all ≡ [] = drop_all c.loop-index.index all (omega (arith, length-map c.deref-journal-items.result.now bytes_in)) in
-    rw (sym c.deref-journal-items.ensures.value) (ap (λ (texts : List (List ℕ)). places_after (length c.args.account.now.table.now) (all_calls texts) (take c.loop-index.account.used c.loop-index.account.table.now)) (sym none) ∙ c.loop-index.invariant.applied)
+    let all = map bytes_in c.args.self.now.journals.now in
+    let none : drop c.loop-index.index all ≡ [] = drop_all c.loop-index.index all (omega (arith, length-map c.args.self.now.journals.now bytes_in)) in
+    ap (λ (texts : List (List ℕ)). places_after (length c.args.account.now.table.now) (all_calls texts) (take c.loop-index.account.used c.loop-index.account.table.now)) (sym none) ∙ c.loop-index.invariant.applied
 
 pub returns-clause-room : goal.returns-clause-room
 returns-clause-room c = c.loop-index.invariant.room

@@ -1,6 +1,6 @@
 use Rattle.std.proofs.Common.{◌≡◌, length, map, take, drop}
 use Rattle.margin_call.specs.Applied.{places_after, all_calls}
-use Rattle.margin_call.proofs.apply.Given as goal
+use Rattle.margin_call.proofs.Day.apply.Given as goal
 
 abbrev pub invariant-loop-index : goal.invariant-loop-index
 invariant-loop-index l = record {

@@ -43,6 +43,7 @@ pub(crate) fn weights(lines: &mut Lines<'_>) -> Result<Weights, Fault>
 }
 
 // Lines 4 to 6: how many scenarios there are, historical and stress.
+// Kept: pairs here and below, for the definitions of these lines give pairs, and each is taken apart by name in the one call.
 pub(crate) fn counts(lines: &mut Lines<'_>) -> Result<(u32, u32), Fault>
     ensures { Takes counts_of lines.old result lines.new }
 {

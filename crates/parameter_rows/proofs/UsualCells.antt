@@ -5,7 +5,7 @@ use mir.Val.{bool_byte}
 use Rattle.std.proofs.lemmas.Int.{ints}
 use Rattle.std.proofs.lemmas.Bool.{eqb-true}
 use Rattle.std.specs.List.{AllByRecursion as All}
-use Rattle.std.proofs.lemmas.List.{take_more, get_or-drop, take_all, drop_all, length-take-le, length-drop, drop_more}
+use Rattle.std.proofs.lemmas.List.{take_more, take_all, drop_all, length-take-le, length-drop, drop_more}
 use Rattle.std.proofs.ByRecursion.{All-push}
 use Rattle.parameter_text.specs.Digits.{Digit, number}
 use Rattle.parameter_text.specs.Decimals.{signed, sign_text, point_text}
@@ -21,16 +21,15 @@ number_push n [] b = refl
 number_push n (x ∷ xs) b = number_push (n * 10 + (x - 48)) xs b
 
 -- one digit more
-pub digits_more : (xs : List ℕ) (at whole n k : ℕ) → at + k < length xs → k < 8 → 48 ≤ get_or xs (at + k) 0 → get_or xs (at + k) 0 ≤ 57 → Digits (drop at xs) whole n k → Digits (drop at xs) whole (n * 10 + (get_or xs (at + k) 0 - 48)) (k + 1)
-digits_more xs at whole n k h l a b d =
-    let b0 : get_or (drop at xs) k 0 ≡ get_or xs (at + k) 0 = get_or-drop at xs k 0 in
-    let m : take (k + 1) (drop at xs) ≡ take k (drop at xs) ++ get_or xs (at + k) 0 ∷ [] = take_more (drop at xs) k 0 (omega (arith, length-drop at xs)) ∙ ap (λ x. take k (drop at xs) ++ x ∷ []) b0 in
+pub digits_more : (xs : List ℕ) (whole n k : ℕ) → k < length xs → k < 8 → 48 ≤ get_or xs k 0 → get_or xs k 0 ≤ 57 → Digits xs whole n k → Digits xs whole (n * 10 + (get_or xs k 0 - 48)) (k + 1)
+digits_more xs whole n k h l a b d =
+    let m : take (k + 1) xs ≡ take k xs ++ get_or xs k 0 ∷ [] = take_more xs k 0 h in
     let less : 8 - (k + 1) ≡ 8 - k - 1 = omega arith in
     record {
       few = omega arith;
-      all = subst (All Digit) (sym m) (All-push Digit (take k (drop at xs)) _ d.all (a, b));
-      value = ap (λ x. x * 10 + (get_or xs (at + k) 0 - 48)) d.value ∙ sym (number_push whole (take k (drop at xs)) _) ∙ ap (number whole) (sym m);
-      small = rw less (room_step n (8 - k) (get_or xs (at + k) 0 - 48) (omega arith) (omega arith) d.small);
+      all = subst (All Digit) (sym m) (All-push Digit (take k xs) _ d.all (a, b));
+      value = ap (λ x. x * 10 + (get_or xs k 0 - 48)) d.value ∙ sym (number_push whole (take k xs) _) ∙ ap (number whole) (sym m);
+      small = rw less (room_step n (8 - k) (get_or xs k 0 - 48) (omega arith) (omega arith) d.small);
     }
 
 -- one digit more keeps the number small
@@ -79,36 +78,38 @@ point_some : (f : List ℕ) → 0 < length f → point_text f ≡ 46 ∷ f
 point_some [] h = absurd (omega arith)
 point_some (d ∷ f) h = refl
 
+first : (xs : List ℕ) → 0 < length xs → xs ≡ get_or xs 0 0 ∷ drop 1 xs
+first [] h = absurd (omega arith)
+first (x ∷ xs) h = refl
+
 -- a digit alone
-pub sized_one : (xs : List ℕ) (at : ℕ) → at < length xs → 48 ≤ get_or xs at 0 → get_or xs at 0 ≤ 57 → Sized (take (at + 1 - at) (drop at xs)) ((get_or xs at 0 - 48) * 100000000)
-sized_one xs at h a b =
-    let one : at + 1 - at ≡ 1 = omega arith in (
-      get_or xs at 0 ∷ [],
-      [],
-      record {
-        parts = ap (λ n. take n (drop at xs)) one ∙ ap (take 1) (drop_more xs at 0 h);
-        whole_digits = ((a, b), tt);
-        fraction_digits = tt;
-        one = refl;
-        eight = omega arith;
-        value = omega arith;
-      },
-    )
+pub sized_one : (xs : List ℕ) → 0 < length xs → 48 ≤ get_or xs 0 0 → get_or xs 0 0 ≤ 57 → Sized (take 1 xs) ((get_or xs 0 0 - 48) * 100000000)
+sized_one xs h a b = (
+  get_or xs 0 0 ∷ [],
+  [],
+  record {
+    parts = ap (take 1) (first xs h);
+    whole_digits = ((a, b), tt);
+    fraction_digits = tt;
+    one = refl;
+    eight = omega arith;
+    value = omega arith;
+  },
+)
 
 -- a digit, a point and digits
-pub sized_more : (xs : List ℕ) (at n k : ℕ) → at + 2 + k ≤ length xs → 48 ≤ get_or xs at 0 → get_or xs at 0 ≤ 57 → get_or xs (at + 1) 0 ≡ 46 → 0 < k → Digits (drop (at + 2) xs) (get_or xs at 0 - 48) n k → Sized (take (at + 2 + k - at) (drop at xs)) (n * 10 ^ (8 - k))
-sized_more xs at n k h a b point some d =
-    let x = get_or xs at 0 in
-    let f = take k (drop (at + 2) xs) in
-    let long : length f ≡ k = length-take-le k (drop (at + 2) xs) (omega (arith, length-drop (at + 2) xs)) in
-    let two : at + 2 + k - at ≡ suc (suc k) = omega arith in
-    let next : at + 1 + 1 ≡ at + 2 = omega arith in
-    let there : drop at xs ≡ x ∷ 46 ∷ drop (at + 2) xs = drop_more xs at 0 (omega arith) ∙ ap (λ (l : List ℕ). x ∷ l) (byte_at xs (at + 1) 46 (omega arith) point ∙ ap (λ z. 46 ∷ drop z xs) next) in
+pub sized_more : (xs : List ℕ) (n k : ℕ) → 2 + k ≤ length xs → 48 ≤ get_or xs 0 0 → get_or xs 0 0 ≤ 57 → get_or xs 1 0 ≡ 46 → 0 < k → Digits (drop 2 xs) (get_or xs 0 0 - 48) n k → Sized (take (2 + k) xs) (n * 10 ^ (8 - k))
+sized_more xs n k h a b point some d =
+    let x = get_or xs 0 0 in
+    let f = take k (drop 2 xs) in
+    let long : length f ≡ k = length-take-le k (drop 2 xs) (omega (arith, length-drop 2 xs)) in
+    let two : 2 + k ≡ suc (suc k) = omega arith in
+    let there : xs ≡ x ∷ 46 ∷ drop 2 xs = first xs (omega arith) ∙ ap (λ (l : List ℕ). x ∷ l) (byte_at xs 1 46 (omega arith) point) in
     let zeros : 0 * 10 + (x - 48) ≡ x - 48 = omega arith in (
       x ∷ [],
       f,
       record {
-        parts = ap (λ m. take m (drop at xs)) two ∙ ap (take (suc (suc k))) there ∙ ap (λ (l : List ℕ). x ∷ l) (sym (point_some f (omega arith)));
+        parts = ap (λ m. take m xs) two ∙ ap (take (suc (suc k))) there ∙ ap (λ (l : List ℕ). x ∷ l) (sym (point_some f (omega arith)));
         whole_digits = ((a, b), tt);
         fraction_digits = d.all;
         one = refl;
@@ -148,14 +149,14 @@ spelling m text bs n h e (w, f, u) =
     )
 
 -- the sign is one byte, or none
-pub spells_signed : (xs : List ℕ) (from next n : ℕ) (m : Bool) → eqb (get_or xs from 0) 45 ≡ m → from + bool_byte m < next → from < length xs → n ≤ largest_return → Sized (take (next - (from + bool_byte m)) (drop (from + bool_byte m) xs)) n → SpellsReturn (take (next - from) (drop from xs)) (signed m n)
-spells_signed xs from next n true e l k h s =
-    let more : next - from ≡ suc (next - (from + 1)) = omega arith in
-    let there : drop from xs ≡ 45 ∷ drop (from + 1) xs = byte_at xs from 45 k (eqb-true _ 45 e) in
-    spelling true (take (next - (from + 1)) (drop (from + 1) xs)) _ n h (ap (λ z. take z (drop from xs)) more ∙ ap (take (suc (next - (from + 1)))) there) s
-spells_signed xs from next n false e l k h s =
-    let none : from + 0 ≡ from = omega arith in
-    spelling false (take (next - (from + 0)) (drop (from + 0) xs)) _ n h (rw none refl) s
+pub spells_signed : (xs : List ℕ) (length' n : ℕ) (m : Bool) → eqb (get_or xs 0 0) 45 ≡ m → 0 < length xs → n ≤ largest_return → Sized (take length' (drop (bool_byte m) xs)) n → SpellsReturn (take (bool_byte m + length') xs) (signed m n)
+spells_signed xs l n true e k h s =
+    let more : 1 + l ≡ suc l = omega arith in
+    let there : xs ≡ 45 ∷ drop 1 xs = byte_at xs 0 45 k (eqb-true _ 45 e) in
+    spelling true (take l (drop 1 xs)) _ n h (ap (λ z. take z xs) more ∙ ap (take (suc l)) there) s
+spells_signed xs l n false e k h s =
+    let none : 0 + l ≡ l = omega arith in
+    spelling false (take l xs) _ n h (ap (λ z. take z xs) none) s
 
 pub sign_small : (m : Bool) → bool_byte m ≤ 1
 sign_small true = omega arith

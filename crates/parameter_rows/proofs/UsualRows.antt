@@ -1,19 +1,13 @@
 -- The cells read so far, the commas after the last one, and the line that they make. Assumes nothing.
-use Rattle.std.proofs.Common.{◌≡◌, ℕ, suc, ◌+◌, true, false, cond, eqb, ◌-◌, ◌<◌, ◌≤◌, List, [], ◌∷◌, ◌++◌, length, get_or, take, drop, set, replicate, ℤ, IfSome, Some, None, Ok, Option, sym, refl, ap, ◌∙◌, subst, inl, inr, arith}
+use Rattle.std.proofs.Common.{◌≡◌, ℕ, zero, suc, ◌+◌, true, false, cond, eqb, ◌-◌, ◌<◌, ◌≤◌, List, [], ◌∷◌, ◌++◌, length, get_or, take, drop, set, replicate, ℤ, IfSome, Some, None, Ok, Option, sym, refl, ap, ◌∙◌, subst, inl, inr, ⊎_elim, arith}
 use Rattle.std.specs.List.{prefix_len}
-use Rattle.std.proofs.lemmas.List.Sums.{prefix_len-le-length}
-use Rattle.std.proofs.lemmas.Bool.{eqb-true}
-use Rattle.std.proofs.lemmas.List.{take-append-drop, drop-drop, drop_all, take_all, append_assoc, append-nil, take_more_set, length-set, length-drop}
-use Rattle.parameter_text.specs.Cuts.{cells, spliced, line_of, after_line, Starts}
+use Rattle.std.proofs.lemmas.Bool.{eqb-true, cases_lt}
+use Rattle.std.proofs.lemmas.List.{take-append-drop, drop_all, append_assoc, append-nil, take_more_set, length-append, length-drop}
+use Rattle.parameter_text.specs.Cuts.{cells, spliced, within_line, line_of, after_line, Starts}
 use Rattle.parameter_rows.specs.Returns.{SpellsReturn, SpellReturns, Returns, returns_cells}
-use Rattle.parameter_rows.specs.Reading.{Ends}
+use Rattle.parameter_rows.specs.Reading.{Ends, followed, Followed}
 use Rattle.parameter_rows.proofs.ReturnLaws.{spell_count, returns_start}
 use Rattle.parameter_rows.proofs.UsualCells.{byte_at}
-
--- cells with a comma after each
-abbrev followed : List (List ℕ) → List ℕ
-followed [] = []
-followed (c ∷ cs) = c ++ 44 ∷ followed cs
 
 followed_push : (cs : List (List ℕ)) (c : List ℕ) → followed (cs ++ c ∷ []) ≡ followed cs ++ (c ++ 44 ∷ [])
 followed_push [] c = refl
@@ -30,29 +24,20 @@ spell_push [] (u ∷ vs) c v h s = absurd h
 spell_push (d ∷ cs) [] c v h s = absurd h
 spell_push (d ∷ cs) (u ∷ vs) c v h s = (h.0, spell_push cs vs c v h.1 s)
 
--- the front of the text up to a place spells these returns, a comma after each
-abbrev pub ReadTo : List ℕ → ℕ → List ℤ → Type 0
-ReadTo xs at vs = (cs : List (List ℕ)) × SpellReturns cs vs × (xs ≡ followed cs ++ drop at xs)
+pub followed_none : (xs : List ℕ) → Followed xs xs []
+followed_none xs = ([], tt, refl)
 
-pub read_none : (xs : List ℕ) → ReadTo xs 0 []
-read_none xs = ([], tt, refl)
-
-cut : (xs : List ℕ) (at next : ℕ) → at ≤ next → drop at xs ≡ take (next - at) (drop at xs) ++ drop next xs
-cut xs at next h =
-    let sum : at + (next - at) ≡ next = omega arith in
-    sym (take-append-drop (next - at) (drop at xs)) ∙ ap (λ (l : List ℕ). take (next - at) (drop at xs) ++ l) (drop-drop (next - at) at xs ∙ ap (λ z. drop z xs) sum)
-
-module _ (xs : List ℕ) (at next : ℕ) (row : List ℤ) (i : ℕ) (v : ℤ) (in' : i < length row) (on : at ≤ next) (s : SpellsReturn (take (next - at) (drop at xs)) v) where
-  pub read_more : next < length xs → get_or xs next 0 ≡ 44 → ReadTo xs at (take i row) → ReadTo xs (next + 1) (take (i + 1) (set row i v))
-  read_more h e (cs, all, text) =
-      let c = take (next - at) (drop at xs) in (
+module _ (xs rest : List ℕ) (n : ℕ) (row : List ℤ) (i : ℕ) (v : ℤ) (in' : i < length row) (s : SpellsReturn (take n rest) v) where
+  pub followed_more : n < length rest → get_or rest n 0 ≡ 44 → Followed xs rest (take i row) → Followed xs (drop (n + 1) rest) (take (i + 1) (set row i v))
+  followed_more h e (cs, all, text) =
+      let c = take n rest in (
         cs ++ c ∷ [],
         subst (SpellReturns (cs ++ c ∷ [])) (sym (take_more_set row i v in')) (spell_push cs (take i row) c v all s),
         text
-            ∙ ap (λ (l : List ℕ). followed cs ++ l) (cut xs at next on ∙ ap (λ (l : List ℕ). c ++ l) (byte_at xs next 44 h e))
-            ∙ ap (λ (l : List ℕ). followed cs ++ l) (sym (append_assoc c (44 ∷ []) (drop (next + 1) xs)))
-            ∙ sym (append_assoc (followed cs) (c ++ 44 ∷ []) (drop (next + 1) xs))
-            ∙ ap (λ (l : List ℕ). l ++ drop (next + 1) xs) (sym (followed_push cs c)),
+            ∙ ap (λ (l : List ℕ). followed cs ++ l) (sym (take-append-drop n rest) ∙ ap (λ (l : List ℕ). c ++ l) (byte_at rest n 44 h e))
+            ∙ ap (λ (l : List ℕ). followed cs ++ l) (sym (append_assoc c (44 ∷ []) (drop (n + 1) rest)))
+            ∙ sym (append_assoc (followed cs) (c ++ 44 ∷ []) (drop (n + 1) rest))
+            ∙ ap (λ (l : List ℕ). l ++ drop (n + 1) rest) (sym (followed_push cs c)),
       )
 
 before : (p text line rest : List ℕ) → Starts text line rest → Starts (p ++ text) (p ++ line) rest
@@ -61,22 +46,31 @@ before p text line rest (inr (inl e)) = inr (inl (ap (λ (l : List ℕ). p ++ l)
 before p text line rest (inr (inr e)) = inr (inr (ap (λ (l : List ℕ). p ++ l) e.0, e.1))
 
 -- the last cell and the line's end: the line is a row of returns
-pub read_all : (xs : List ℕ) (at next : ℕ) (row : List ℤ) (i n : ℕ) (v : ℤ) (rest : List ℕ) → i + 1 ≡ n → length row ≡ n → at ≤ next → SpellsReturn (take (next - at) (drop at xs)) v → ReadTo xs at (take i row) → Ends (drop next xs) rest → (returns_cells n (cells (line_of xs)) ≡ Ok (set row i v)) × (rest ≡ after_line xs)
-read_all xs at next row i n v rest last size on s (cs, all, text) (k, ends) =
-    let c = take (next - at) (drop at xs) in
-    let vs = set row i v in
-    let same : length vs ≡ length row = length-set row i v in
-    let whole : vs ≡ take i row ++ v ∷ [] = sym (take_all (i + 1) vs (omega arith)) ∙ take_more_set row i v (omega arith) in
-    let every : SpellReturns (cs ++ c ∷ []) vs = subst (SpellReturns (cs ++ c ∷ [])) (sym whole) (spell_push cs _ c v all s) in
+pub read_all : (xs rest after : List ℕ) (n size : ℕ) (vs : List ℤ) (v : ℤ) → length vs + 1 ≡ size → SpellsReturn (take n rest) v → Followed xs rest vs → Ends (drop n rest) after → (returns_cells size (cells (line_of xs)) ≡ Ok (vs ++ v ∷ [])) × (after ≡ after_line xs)
+read_all xs rest after n size vs v e s (cs, all, text) (k, ends) =
+    let c = take n rest in
+    let every : SpellReturns (cs ++ c ∷ []) (vs ++ v ∷ []) = spell_push cs vs c v all s in
     let line = (followed cs ++ c) ++ replicate k 44 in
-    let r : Returns n line vs =
-    (cs ++ c ∷ [], k, spell_count (cs ++ c ∷ []) vs every ∙ same ∙ size, ap (λ (l : List ℕ). l ++ replicate k 44) (sym (spliced_push cs c)), every) in
-    let t : xs ≡ (followed cs ++ c) ++ drop next xs =
-    text ∙ ap (λ (l : List ℕ). followed cs ++ l) (cut xs at next on) ∙ sym (append_assoc (followed cs) c (drop next xs)) in
-    let starts : Starts xs line rest =
-    subst (λ (l : List ℕ). Starts l line rest) (sym t) (before (followed cs ++ c) (drop next xs) (replicate k 44) rest ends) in
-    let done = returns_start n xs line rest vs (omega arith) r starts in
+    let r : Returns size line (vs ++ v ∷ []) =
+    (cs ++ c ∷ [], k, spell_count (cs ++ c ∷ []) (vs ++ v ∷ []) every ∙ length-append vs (v ∷ []) ∙ e, ap (λ (l : List ℕ). l ++ replicate k 44) (sym (spliced_push cs c)), every) in
+    let t : xs ≡ (followed cs ++ c) ++ drop n rest =
+    text ∙ ap (λ (l : List ℕ). followed cs ++ l) (sym (take-append-drop n rest)) ∙ sym (append_assoc (followed cs) c (drop n rest)) in
+    let starts : Starts xs line after =
+    subst (λ (l : List ℕ). Starts l line after) (sym t) (before (followed cs ++ c) (drop n rest) (replicate k 44) after ends) in
+    let done = returns_start size xs line after (vs ++ v ∷ []) (omega arith) r starts in
     (done.0, sym done.1)
+
+-- what follows the first line is found again by its length
+pub from_end : (xs after : List ℕ) → after ≡ after_line xs → (length after ≤ length xs) × (drop (length xs - length after) xs ≡ after_line xs)
+from_end xs after e =
+    let k = prefix_len within_line xs + 1 in
+    let short : length after ≤ length xs = omega (arith, ap length e, length-drop k xs) in
+    let back : drop (length xs - length (drop k xs)) xs ≡ drop k xs =
+    ⊎_elim
+    (λ (h : k < length xs). let same : length xs - length (drop k xs) ≡ k = omega (arith, length-drop k xs) in ap (λ (n : ℕ). drop n xs) same)
+    (λ (h : length xs ≤ k). drop_all (length xs - length (drop k xs)) xs (omega (arith, length-drop k xs)) ∙ sym (drop_all k xs h))
+    (cases_lt k (length xs)) in
+    (short, ap (λ (l : List ℕ). drop (length xs - length l) xs) e ∙ back)
 
 -- what a Some has is changed, and None says nothing
 pub some_map : {X : Type 0} (o : Option X) (P Q : X → Type 0) → ((x : X) → P x → Q x) → IfSome o P → IfSome o Q
@@ -105,11 +99,11 @@ ends_after xs rest k e h =
     let s : Starts (replicate k 44 ++ drop k xs) (replicate k 44 ++ []) rest = before (replicate k 44) (drop k xs) [] rest h in
     (k, subst (λ (l : List ℕ). Starts l (replicate k 44) rest) (sym run) (subst (λ (l : List ℕ). Starts (replicate k 44 ++ drop k xs) l rest) (append-nil (replicate k 44)) s))
 
--- the same at a place of the text, where what is left is cut off twice
-pub line_ended : (xs line last : List ℕ) (from k n : ℕ) → from ≤ length xs → line ≡ drop from xs → last ≡ drop k line → k ≡ prefix_len (λ x. eqb x 44) line → n ≤ length last → Starts last [] (drop n last) → Ends (drop from xs) (drop (from + k + n) xs) × (from + k + n ≤ length xs)
-line_ended xs line last from k n h a b e l s =
-    let there : drop n last ≡ drop (from + k + n) xs = ap (drop n) (b ∙ ap (drop k) a ∙ drop-drop k from xs) ∙ drop-drop n (from + k) xs in
-    let ends : Ends line (drop n last) = ends_after line (drop n last) k e (subst (λ (m : List ℕ). Starts m [] (drop n last)) b s) in (
-      subst (Ends (drop from xs)) there (subst (λ (m : List ℕ). Ends m (drop n last)) a ends),
-      omega (arith, l, h, e, prefix_len-le-length (λ x. eqb x 44) line, ap length b, length-drop k line, ap length a, length-drop from xs),
-    )
+-- the last value, written after those before it
+pub set_last : (vs us : List ℤ) (v : ℤ) (i : ℕ) → length vs ≡ i → length us ≡ 1 → set (vs ++ us) i v ≡ vs ++ v ∷ []
+set_last [] [] v i e l = absurd (omega arith)
+set_last [] (u ∷ []) v zero e l = refl
+set_last [] (u ∷ []) v (suc i) e l = absurd (omega arith)
+set_last [] (u ∷ w ∷ us) v i e l = absurd (omega arith)
+set_last (x ∷ vs) us v zero e l = absurd (omega arith)
+set_last (x ∷ vs) us v (suc i) e l = ap (λ (m : List ℤ). x ∷ m) (set_last vs us v i (omega arith) l)

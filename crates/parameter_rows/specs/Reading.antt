@@ -1,9 +1,10 @@
 -- What the reader of usual rows finds at a place of the text. Assumes nothing.
-use Rattle.std.specs.Prelude.{◌≡◌, ℕ, ◌+◌, ◌-◌, ◌*◌, ◌^◌, ◌≤◌, List, ◌++◌, length, take, replicate}
+use Rattle.std.specs.Prelude.{◌≡◌, ℕ, ◌+◌, ◌-◌, ◌*◌, ◌^◌, ◌≤◌, List, [], ◌∷◌, ◌++◌, length, take, replicate, ℤ}
 use Rattle.std.specs.List.{AllByRecursion}
 use Rattle.parameter_text.specs.Digits.{Digit, number}
 use Rattle.parameter_text.specs.Decimals.{scaled, point_text}
 use Rattle.parameter_text.specs.Cuts.{Starts}
+use Rattle.parameter_rows.specs.Returns.{SpellReturns}
 
 -- k digits in front, at most eight, and the number n that they write on from one digit
 pub record Digits (text : List ℕ) (whole n k : ℕ) : Type 0 where
@@ -28,3 +29,12 @@ Sized text n = (whole : List ℕ) × (fraction : List ℕ) × Unsigned text n wh
 -- commas alone, and then the line's end
 abbrev pub Ends : List ℕ → List ℕ → Type 0
 Ends text rest = (k : ℕ) × Starts text (replicate k 44) rest
+
+-- cells with a comma after each
+abbrev pub followed : List (List ℕ) → List ℕ
+followed [] = []
+followed (c ∷ cs) = c ++ 44 ∷ followed cs
+
+-- the text up to what is left spells these returns, a comma after each
+abbrev pub Followed : List ℕ → List ℕ → List ℤ → Type 0
+Followed text rest vs = (cs : List (List ℕ)) × SpellReturns cs vs × (text ≡ followed cs ++ rest)

@@ -1,9 +1,9 @@
 // Dates: day/month/year, a day of the calendar from 2000 to 2099.
 ghost use Rattle.std.specs.Prelude.{◌≡◌, ◌&&◌, nat_le};
-ghost use Rattle.parameter_text.specs.Dates.{leap, days_in, real, sized, written_day, date_of, date_cell, DatesPass};
+ghost use Rattle.parameter_text.specs.Dates.{leap, days_in, real, written_day, date_of, date_cell, DatesPass};
 
 use super::cuts::cut_at;
-use super::digits::{all_digits, number_of};
+use super::digits::{is_sized, number_of};
 use super::terms::{Date, Question};
 
 fn is_leap(year: u32) -> bool
@@ -32,12 +32,6 @@ impl Date {
             && (1..=12).contains(&self.month)
             && (1..=days(self.month, self.year)).contains(&self.day)
     }
-}
-
-fn is_sized(part: &[u8], low: usize, high: usize) -> bool
-    ensures { result ≡ sized low high part.now }
-{
-    (low..=high).contains(&part.len()) && all_digits(part)
 }
 
 // A day in its three parts, if each has its form.

@@ -5,7 +5,7 @@ ghost use Rattle.parameter_text.specs.Digits.{digit, every};
 ghost use Rattle.parameter_text.specs.Signs.{is_minus};
 ghost use Rattle.parameter_text.specs.Decimals.{place_count, scaled, minus_in, unsigned_in, pointed, formed, valued, judged, decimal, DecimalsPass};
 
-use super::digits::{all_digits, leading_digits, number_of};
+use super::digits::{is_sized, leading_digits, number_of};
 use super::terms::{DecimalRule, Places, Question, Sign};
 
 impl Places {
@@ -28,7 +28,7 @@ fn is_pointed(rest: &[u8]) -> bool
 {
     match rest {
         [] => true,
-        [b'.', f @ ..] => (1..=10).contains(&f.len()) && all_digits(f),
+        [b'.', fraction @ ..] => is_sized(fraction, 1, 10),
         _ => false,
     }
 }

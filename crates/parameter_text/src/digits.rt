@@ -2,6 +2,7 @@
 ghost use Rattle.std.specs.Prelude.{◌≡◌, ◌+◌, ◌*◌, ◌^◌, ◌≤◌, length, take, drop};
 ghost use Rattle.std.specs.List.{prefix_len};
 ghost use Rattle.parameter_text.specs.Digits.{digit, every, number};
+ghost use Rattle.parameter_text.specs.Dates.{sized};
 
 // The digits in front, and what follows them.
 pub(crate) fn leading_digits(bytes: &[u8]) -> (&[u8], &[u8])
@@ -12,10 +13,17 @@ pub(crate) fn leading_digits(bytes: &[u8]) -> (&[u8], &[u8])
     bytes.split_at(n)
 }
 
-pub(crate) fn all_digits(bytes: &[u8]) -> bool
+fn all_digits(bytes: &[u8]) -> bool
     ensures { result ≡ every digit bytes.now }
 {
     bytes.iter().all(|b| b.is_ascii_digit())
+}
+
+// Are there so many bytes, and is each a digit?
+pub(crate) fn is_sized(bytes: &[u8], low: usize, high: usize) -> bool
+    ensures { result ≡ sized low high bytes.now }
+{
+    (low..=high).contains(&bytes.len()) && all_digits(bytes)
 }
 
 // The number that at most ten digits write. A byte that is no digit counts too, as much as it is above the digit 0.

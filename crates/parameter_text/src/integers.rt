@@ -1,8 +1,8 @@
 // Integers: one to nine digits. A stock starts with no zero.
 ghost use Rattle.std.specs.Prelude.{◌≡◌};
-ghost use Rattle.parameter_text.specs.Integers.{whole_formed, whole_of, in_bounds, integer, stock_of, stock_cell, IntegersPass, StocksPass};
+ghost use Rattle.parameter_text.specs.Integers.{whole_of, in_bounds, integer, stock_of, stock_cell, IntegersPass, StocksPass};
 
-use super::digits::{all_digits, number_of};
+use super::digits::{is_sized, number_of};
 use super::terms::{IntegerRule, Question};
 
 // The rule for a stock's number.
@@ -11,18 +11,12 @@ const STOCK: IntegerRule = IntegerRule {
     high: 99_999,
 };
 
-fn is_whole(cell: &[u8]) -> bool
-    ensures { result ≡ whole_formed cell.now }
-{
-    (1..=9).contains(&cell.len()) && all_digits(cell)
-}
-
 // The number that a cell writes, if it has the form of one.
 fn whole_number(cell: &[u8]) -> Option<u32>
     ensures number { result ≡ whole_of cell.now }
     ensures law { IntegersPass }
 {
-    if is_whole(cell) {
+    if is_sized(cell, 1, 9) {
         Some(number_of(cell) as u32)
     } else {
         None

@@ -1,15 +1,14 @@
-use Rattle.std.proofs.Common.{◌+◌, get_or, arith}
-use Rattle.parameter_rows.proofs.UsualCells.{digits_more, digits_none, digits_small}
+use Rattle.std.proofs.Common.{◌≡◌, ◌<◌, get_or, take, length, arith}
+use Rattle.std.proofs.lemmas.List.{get_or-take, length-take-le}
+use Rattle.parameter_rows.proofs.UsualCells.{digits_more}
 use Rattle.parameter_rows.proofs.usual.digits.Goals as goal
 
-pub loop-k-init : goal.loop-k-init
-loop-k-init c = digits_none _ _ c.requires.digit
-
-pub overflow_mul-n : goal.overflow_mul-n
-overflow_mul-n c = let s = digits_small c.loop-k.n c.loop-k.k 0 c.loop-k-test.true (omega arith) c.loop-k.invariant.small in omega arith
-
-pub overflow_add-n : goal.overflow_add-n
-overflow_add-n c = let s = digits_small c.loop-k.n c.loop-k.k (get_or c.args.text.now (c.args.at + c.loop-k.k) 0) c.loop-k-test.true c.if-not-is_ascii_digit.ensures.cases.1 c.loop-k.invariant.small in omega (arith, c.from.ensures)
-
 pub loop-k-preserved : goal.loop-k-preserved
-loop-k-preserved c = rw c.from.ensures (digits_more c.args.text.now c.args.at c.args.whole c.loop-k.n c.loop-k.k (omega arith) c.loop-k-test.true c.if-not-is_ascii_digit.ensures.cases.0 c.if-not-is_ascii_digit.ensures.cases.1 c.loop-k.invariant)
+loop-k-preserved c =
+    let xs = c.args.text.now in
+    let l = c.loop-k in
+    let d = c.if-not-is_ascii_digit.ensures.cases in
+    let long : length (take 8 xs) ≡ 8 = length-take-le 8 xs c.requires.room in
+    let h : l.k < 8 = omega (arith, long, c.loop-k-test.true) in
+    let same : get_or (take 8 xs) l.k 0 ≡ get_or xs l.k 0 = get_or-take 8 xs l.k 0 h in
+    rw (c.from.ensures, same) (digits_more xs c.args.whole l.n l.k (omega (arith, c.requires.room, h)) h (omega (arith, same, d.0)) (omega (arith, same, d.1)) l.invariant)

@@ -1,56 +1,48 @@
-use Rattle.std.proofs.Common.{◌≡◌, ℕ, ◌+◌, ◌-◌, length, take, drop, set, ℤ, Ok, sym, subst, arith, w32, SFits, to_z, of_z, rules}
-use Rattle.std.proofs.lemmas.Option.{MatchOption-from_none}
+use Rattle.std.proofs.Common.{◌≡◌, ℕ, ◌+◌, List, ◌++◌, ◌∷◌, [], length, drop, ℤ, Ok, sym, ap, ◌∙◌, subst, arith, w32, SFits, to_z, of_z, rules}
+use Rattle.std.proofs.lemmas.List.{take_rest, length-drop}
 use Rattle.std.proofs.lemmas.Int.{to_z-of_z}
 use Rattle.parameter_text.specs.Cuts.{cells, line_of, after_line}
 use Rattle.parameter_rows.specs.Returns.{returns_cells}
 use Rattle.parameter_rows.specs.Reading.{Ends}
 use Rattle.parameter_rows.proofs.ReturnLaws.{returns_pass}
-use Rattle.parameter_rows.proofs.UsualRows.{ReadTo, read_none, read_more, read_all, some_map, some_both}
+use Rattle.parameter_rows.proofs.UsualRows.{read_all, from_end, set_last}
 use Rattle.parameter_rows.proofs.usual.usual_row.Goals as goal
 
-pub returns-then-n-eq0 : goal.returns-then-n-eq0
-returns-then-n-eq0 c = record { passes = tt; next = tt; law = returns_pass }
+pub returns-in_err-last-clause-law : goal.returns-in_err-last-clause-law
+returns-in_err-last-clause-law c = returns_pass
 
-pub returns-in_err-v : goal.returns-in_err-v
-returns-in_err-v c = record { passes = MatchOption-from_none c.from_residual.result _ c.from_residual.ensures; next = MatchOption-from_none c.from_residual.result _ c.from_residual.ensures; law = returns_pass }
+pub returns-in_err-rest-clause-law : goal.returns-in_err-rest-clause-law
+returns-in_err-rest-clause-law c = returns_pass
 
-pub returns-then-text-next-ne44 : goal.returns-then-text-next-ne44
-returns-then-text-next-ne44 c = record { passes = tt; next = tt; law = returns_pass }
+pub returns-in_err-v-clause-law : goal.returns-in_err-v-clause-law
+returns-in_err-v-clause-law c = returns_pass
 
-pub returns-in_err-v-2 : goal.returns-in_err-v-2
-returns-in_err-v-2 c = record { passes = MatchOption-from_none c.from_residual-in_err-v-2.result _ c.from_residual-in_err-v-2.ensures; next = MatchOption-from_none c.from_residual-in_err-v-2.result _ c.from_residual-in_err-v-2.ensures; law = returns_pass }
+pub returns-in_err-next-clause-law : goal.returns-in_err-next-clause-law
+returns-in_err-next-clause-law c = returns_pass
 
-pub loop-i-init : goal.loop-i-init
-loop-i-init c = read_none c.args.text.now
+module _ (c : goal.In_ok-next) where
+  long : (length c.followed_cells.new.row ≡ c.in_ok-last.last) × (c.in_ok-last.last + 1 ≡ length c.args.row.now)
+  long = (search rules, omega (arith, c.in_ok-last.ensures))
 
-pub loop-i-preserved : goal.loop-i-preserved
-loop-i-preserved c =
-    let xs = c.args.text.now in
-    let l = c.loop-i in
+  all : (returns_cells (length c.args.row.now) (cells (line_of c.args.text.now)) ≡ Ok (c.followed_cells.new.row ++ c.in_ok-v.v ∷ [])) × (c.in_ok-next.next.now ≡ after_line c.args.text.now)
+  all =
+      let rest = c.in_ok-rest.rest.now in
+      let n = c.in_ok-v.length in
+      let ends = subst (λ (l : List ℕ). Ends l c.in_ok-next.next.now) (take_rest rest n) c.in_ok-next.ensures in
+      read_all c.args.text.now rest c.in_ok-next.next.now n (length c.args.row.now) c.followed_cells.new.row c.in_ok-v.v (omega (arith, long)) c.in_ok-v.ensures.found c.in_ok-rest.ensures ends
+
+pub returns-clause-passes : goal.returns-clause-passes
+returns-clause-passes c =
+    let row = c.args.row.now in
     let v = c.in_ok-v.v in
-    let next = c.in_ok-v.next in
-    let said = c.in_ok-v.ensures in
+    let back = drop c.in_ok-last.last row in
     let f : SFits w32 v = search rules in
-    let s = read_more xs l.at next l.row l.i v (search rules) (omega (arith, said.ends.0)) said.found said.ends.1 c.if-text-next-ne44.false l.invariant in
-    subst (λ (z : ℤ). ReadTo xs (next + 1) (take (l.i + 1) (set l.row l.i z))) (sym (to_z-of_z w32 v f)) s
+    let one : length back ≡ 1 = omega (arith, length-drop c.in_ok-last.last row, (long c).1) in
+    let same = set_last c.followed_cells.new.row back (to_z w32 (of_z w32 v)) c.in_ok-last.last (long c).0 one in
+    (all c).0 ∙ ap (λ (z : ℤ). Ok (c.followed_cells.new.row ++ z ∷ [])) (sym (to_z-of_z w32 v f)) ∙ ap Ok (sym same)
 
-pub returns : goal.returns
-returns c =
-    let xs = c.args.text.now in
-    let l = c.loop-i in
-    let n = length c.args.row.now in
-    let v = c.in_ok-v-2.v in
-    let next = c.in_ok-v-2.next in
-    let said = c.in_ok-v-2.ensures in
-    let end = c.line_end.ensures in
-    let same : l.i ≡ n - 1 = omega arith in
-    let size : length l.row ≡ n = omega arith in
-    let f : SFits w32 v = search rules in
-    let inv : ReadTo xs l.at (take (n - 1) l.row) = subst (λ (k : ℕ). ReadTo xs l.at (take k l.row)) same l.invariant in
-    let done : (rest : ℕ) → Ends (drop next xs) (drop rest xs) → (returns_cells n (cells (line_of xs)) ≡ Ok (set l.row (n - 1) v)) × (drop rest xs ≡ after_line xs) = λ rest e. read_all xs l.at next l.row (n - 1) n v (drop rest xs) (omega arith) size (omega (arith, said.ends.0)) said.found inv e in
-    let bits : (rest : ℕ) → Ends (drop next xs) (drop rest xs) → returns_cells n (cells (line_of xs)) ≡ Ok (set l.row (n - 1) (to_z w32 (of_z w32 v))) = λ rest e. subst (λ (z : ℤ). returns_cells n (cells (line_of xs)) ≡ Ok (set l.row (n - 1) z)) (sym (to_z-of_z w32 v f)) (done rest e).0 in
-    record {
-      passes = some_map c.line_end.result _ _ bits end.ends;
-      next = some_both c.line_end.result _ _ _ (λ rest e k. ((done rest e).1, k)) end.ends end.within;
-      law = returns_pass;
-    }
+pub returns-clause-next : goal.returns-clause-next
+returns-clause-next c = let e = from_end c.args.text.now c.in_ok-next.next.now (all c).1 in (e.1, omega arith)
+
+pub returns-clause-law : goal.returns-clause-law
+returns-clause-law c = returns_pass

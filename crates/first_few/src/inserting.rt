@@ -34,6 +34,14 @@ fn shift<T: Copy>(places: &mut [T], from: usize, to: usize)
     places.copy_within(from..to, from + 1);
 }
 
+// The last place in use after one more, where so many places are and `len` of them were in use.
+fn last_in_use(places: usize, len: usize) -> usize
+    requires { 0 < places }
+    ensures { result ≡ min (places - 1) len }
+{
+    (places - 1).min(len)
+}
+
 // Takes `x` among the first `len` of `places`, and keeps of them as many as there are places.
 pub(crate) fn insert<T: Order>(places: &mut [T], len: usize, x: T) -> usize
     requires within { len ≤ length places.old }
@@ -48,7 +56,7 @@ pub(crate) fn insert<T: Order>(places: &mut [T], len: usize, x: T) -> usize
     if at >= cap {
         return len;
     }
-    let end = (cap - 1).min(len);
+    let end = last_in_use(cap, len);
     shift(places, at, end);
     places[at] = x;
     end + 1

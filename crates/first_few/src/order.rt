@@ -3,6 +3,7 @@ ghost use Rattle.std.specs.Prelude.{Bool};
 ghost use Rattle.first_few.specs.Order.{ComparesBy};
 
 // A type whose comparison calls only the same value level.
+// Kept: a trait of its own over `Ord`, whose laws let values that differ be equal: then the turn would tell which of them stay.
 pub trait Order: Ord + Copy {
     // Whether one stands ahead of the other.
     ghost before: { Self → Self → Bool };

@@ -26,6 +26,7 @@ fn keep_tail<'a>(tail: &'a mut [Outcome], totals: &[i64]) -> FirstFew<'a, Outcom
 }
 
 // The sum of outcomes' totals.
+// Kept: a `for`: for `iter().map(..).sum()` over signed numbers no proof is found that the sum fits (`sum-requires-clause-fits`).
 fn sum_totals(part: &[Outcome]) -> i64
     requires few { length part.now ≤ 100 }
     requires small { AllByRecursion (λ o. unsigned_abs o.total ≤ 400000000000000) part.now }

@@ -17,16 +17,16 @@ returns g c =
     let x = c.args.x in
     let len = c.args.len in
     let at = c.place_of-at.result in
-    let end = c.min-end.result in
+    let end = c.last_in_use-end.result in
     let same : c.args.len - 0 ≡ c.args.len = omega arith in
     let s = rw same at c.place_of-at.ensures.value in
     let after : set c.shift.new.places at x ≡ set (moved old at end) at x = ap (λ l. set l at x) c.shift.ensures in
     let kept =
-    ap (take (end + 1)) after ∙ take_written o x old len at end c.requires.within s c.if-at-cap.false c.min-end.ensures
-    ∙ sym (keep_is o x old len at end c.requires.within s c.if-at-cap.false c.min-end.ensures) in
+    ap (take (end + 1)) after ∙ take_written o x old len at end c.requires.within s c.if-at-cap.false c.last_in_use-end.ensures
+    ∙ sym (keep_is o x old len at end c.requires.within s c.if-at-cap.false c.last_in_use-end.ensures) in
     record {
       count = omega arith;
       kept = kept;
-      spare = ap (drop (end + 1)) after ∙ drop_written o x old len at end c.requires.within s c.if-at-cap.false c.min-end.ensures;
+      spare = ap (drop (end + 1)) after ∙ drop_written o x old len at end c.requires.within s c.if-at-cap.false c.last_in_use-end.ensures;
       in_order = subst (InOrder g.T.Order.before) (sym kept) (in_order_keep o (length old) x (take len old) c.requires.in_order);
     }

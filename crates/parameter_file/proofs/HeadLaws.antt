@@ -1,9 +1,10 @@
 -- The head of a row in front of a text. Assumes nothing.
-use Rattle.std.proofs.Common.{◌≡◌, ℕ, suc, ◌+◌, ◌≤◌, false, not, eqb, List, [], ◌∷◌, ◌++◌, length, take, drop, ℤ, is_some, Some, None, Ok, Err, Option, Result, true, cond, sym, refl, ap, ◌∙◌, arith}
+use Rattle.std.proofs.Common.{◌≡◌, ℕ, ◌+◌, ◌≤◌, false, not, eqb, List, [], ◌∷◌, ◌++◌, length, take, drop, ℤ, Some, None, Ok, Err, Option, Result, true, cond, sym, refl, ap, ◌∙◌, arith}
 use Rattle.std.specs.List.{prefix_len, AllByRecursion as All}
+use Rattle.std.proofs.Math.Seq.{take-append-add, drop-append-add}
 use Rattle.std.proofs.lemmas.List.{append_assoc, length-append, length-drop, drop-drop, drop_at, take-append-drop}
 use Rattle.std.proofs.ByRecursion.{All-append, All-weaker}
-use Rattle.std.proofs.lemmas.Bool.{false≢true, cond-true, cond-false}
+use Rattle.std.proofs.lemmas.Bool.{cond-true, cond-false}
 use Rattle.std.proofs.lemmas.Bool.Decides.{nat_tests}
 use Rattle.parameter_text.specs.declared.terms.Question.{Question}
 use Rattle.parameter_text.specs.Questions.{both, and_then, seen_as}
@@ -13,7 +14,7 @@ use Rattle.file_rules.specs.declared.terms.FieldType.{FieldType}
 use Rattle.parameter_file.specs.declared.terms.FoundCells.{FoundCells}
 use Rattle.file_rules.specs.Rows.{Content}
 use Rattle.file_rules.specs.Judged.{field_of, content, row_head, with_stock, row_of, row_cells, row_line}
-use Rattle.parameter_file.specs.Table.{HeadText, Headed, HeadOf, HeadRead, LineHead, ReadCells, ReadRow}
+use Rattle.parameter_file.specs.Table.{HeadText, Headed, HeadOf, HeadRead, ReadCells, ReadRow}
 use Rattle.parameter_text.specs.Cuts.{split, cells, spliced, chomped, ended, within_line, line_of, after_line}
 use Rattle.parameter_text.specs.Integers.{integer, stock_cell}
 use Rattle.parameter_text.proofs.CutLaws.{Apart, split_cut, split_some, spliced_split}
@@ -92,10 +93,6 @@ line_head text s t (Some n) h =
     let size : n ≡ length h.0 + length h.1 + 2 = omega (arith, cut_size (line_of text) h.0 h.1 (drop n (line_of text)) h.3.parts, length-drop n (line_of text), h.3.within) in
     headed text h.0 h.1 b.0 s h.2 n t b.1 size h.3.stock h.3.number h.3.kind
 
-pub text_head : (text : List ℕ) (s : ℕ) (t : FieldType) (o : Option ℕ) → is_some o ≡ true → HeadOf text s t o → HeadRead text s t o
-text_head text s t None e h = absurd (false≢true e)
-text_head text s t (Some n) e h = h
-
 -- the line of a text whose head has neither CR nor LF
 
 run_on : (xs t : List ℕ) → All Inside xs → prefix_len within_line (xs ++ t) ≡ length xs + prefix_len within_line t
@@ -114,31 +111,19 @@ ended_front : (xs ys rest : List ℕ) → All Inside xs → ended (xs ++ ys) res
 ended_front xs ys [] h = refl
 ended_front xs ys (r ∷ rest) h = chomped_front xs ys h
 
-take_front : (xs ys : List ℕ) (n : ℕ) → take (length xs + n) (xs ++ ys) ≡ xs ++ take n ys
-take_front [] ys n = ap (λ k. take k ys) (omega arith)
-take_front (x ∷ xs) ys n =
-    let one : suc (length xs) + n ≡ suc (length xs + n) = omega arith in
-    rw one (ap (λ (l : List ℕ). x ∷ l) (take_front xs ys n))
-
-drop_front : (xs ys : List ℕ) (n : ℕ) → drop (length xs + n) (xs ++ ys) ≡ drop n ys
-drop_front [] ys n = ap (λ k. drop k ys) (omega arith)
-drop_front (x ∷ xs) ys n =
-    let one : suc (length xs) + n ≡ suc (length xs + n) = omega arith in
-    rw one (drop_front xs ys n)
-
 pub line_front : (xs ys : List ℕ) → All Inside xs → line_of (xs ++ ys) ≡ xs ++ line_of ys
 line_front xs ys h =
     let n = prefix_len within_line ys in
     ap (λ (k : ℕ). ended (take k (xs ++ ys)) (drop k (xs ++ ys))) (run_on xs ys h)
-    ∙ ap (λ (l : List ℕ). ended l (drop (length xs + n) (xs ++ ys))) (take_front xs ys n)
-    ∙ ap (ended (xs ++ take n ys)) (drop_front xs ys n)
+    ∙ ap (λ (l : List ℕ). ended l (drop (length xs + n) (xs ++ ys))) (take-append-add xs ys n)
+    ∙ ap (ended (xs ++ take n ys)) (drop-append-add xs ys n)
     ∙ ended_front xs (take n ys) (drop n ys) h
 
 pub after_front : (xs ys : List ℕ) → All Inside xs → after_line (xs ++ ys) ≡ after_line ys
 after_front xs ys h =
     let n = prefix_len within_line ys in
     let same : length xs + n + 1 ≡ length xs + (n + 1) = omega arith in
-    ap (λ (k : ℕ). drop (k + 1) (xs ++ ys)) (run_on xs ys h) ∙ ap (λ (k : ℕ). drop k (xs ++ ys)) same ∙ drop_front xs ys (n + 1)
+    ap (λ (k : ℕ). drop (k + 1) (xs ++ ys)) (run_on xs ys h) ∙ ap (λ (k : ℕ). drop k (xs ++ ys)) same ∙ drop-append-add xs ys (n + 1)
 
 -- a cell of digits has no comma, CR or LF
 
@@ -213,8 +198,3 @@ module _ (p : Parameters) (text : List ℕ) (s : ℕ) (t : FieldType) (n : ℕ) 
     },
   )
   head_read before after (Err q) e = head_row ∙ ap (seen_as (λ (x : Content). with_stock s x)) e
-
--- a row of two cells alone: it holds nothing, or has too few cells
-module _ (p : Parameters) (text : List ℕ) (s : ℕ) (t : FieldType) (h : LineHead (cells (line_of text)) s t []) where
-  pub short_row : row_line p (line_of text) ≡ seen_as (λ (x : Content). with_stock s x) (content p t [])
-  short_row = ap (row_cells p) h.2 ∙ ap (λ (x : Result (ℕ × FieldType) Question). and_then x (row_of p [])) h.3

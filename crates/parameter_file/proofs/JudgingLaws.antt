@@ -1,11 +1,11 @@
 -- The steps of a whole file's judgement. Assumes nothing.
-use Rattle.std.proofs.Common.{◌≡◌, ℕ, zero, suc, ◌<◌, ◌≤◌, min, Bool, true, cond, leb, List, [], ◌∷◌, ◌++◌, length, get_or, take, ℤ, is_some, Some, None, Ok, Err, Option, Result, option_map, sym, refl, ap, ◌∙◌, subst, arith}
+use Rattle.std.proofs.Common.{◌≡◌, ℕ, zero, suc, ◌≤◌, min, Bool, true, cond, leb, List, [], ◌∷◌, ◌++◌, length, get_or, take, ℤ, is_some, Some, None, Ok, Err, Option, Result, option_map, sym, refl, ap, ◌∙◌, subst, arith}
 use Rattle.std.specs.List.{fold, reduce, cons_option, filter_map}
 use Rattle.std.proofs.Math.Seq.{take-suc}
 use Rattle.std.proofs.lemmas.List.{append-nil, take_all}
 use Rattle.std.proofs.lemmas.List.Elements.{filter_map-append}
-use Rattle.std.proofs.lemmas.Bool.{cond-true, cond-false, and_from, and_left, and_right, le-leb, lt-leb}
-use Rattle.parameter_text.specs.declared.terms.Question.TheVariants.{Length, Tier}
+use Rattle.std.proofs.lemmas.Bool.{cond-true, and_from, le-leb}
+use Rattle.parameter_text.specs.declared.terms.Question.TheVariants.{Tier}
 use Rattle.parameter_text.specs.Questions.{and_then}
 use Rattle.parameter_text.specs.Cuts.{lines}
 use Rattle.return_source.specs.declared.terms.Parameters.{Parameters}
@@ -21,12 +21,6 @@ use Rattle.parameter_file.specs.Table.{no_rows, fault_in, Says, Holds}
 use Rattle.parameter_file.specs.Checked.{rows_in, JudgedFile, heading_found, indexes, Indexed}
 use Rattle.parameter_file.proofs.TestLaws.{says_true}
 use Rattle.file_rules.proofs.FileLaws.{earliest_same}
-
-pub too_short : (bytes : List ℕ) → length bytes ≡ 0 → verdict bytes ≡ Err (fault_at 0 Length)
-too_short bytes e = cond-false (sized bytes) _ _ (and_left (leb 1 (length bytes)) _ (lt-leb 1 (length bytes) (omega arith)))
-
-pub too_long : (bytes : List ℕ) → most_bytes < length bytes → verdict bytes ≡ Err (fault_at 0 Length)
-too_long bytes h = cond-false (sized bytes) _ _ (and_right (leb 1 (length bytes)) _ (lt-leb (length bytes) most_bytes h))
 
 fault_is : (p : Parameters) (kept : List ℤ) (rows : List Row) (s : ℕ) (e : StockRows) → Says p kept rows s e → fault_in e ≡ fault_line rows s
 fault_is p kept rows s e h =
@@ -87,15 +81,9 @@ module _ (bytes : List ℕ) (some : 1 ≤ length bytes) (few : length bytes ≤ 
   asked : verdict bytes ≡ and_then (heading (lines bytes)) after_heading
   asked = cond-true (sized bytes) _ _ size
 
-  pub heading_fault : (e : Fault) → Err e ≡ heading (lines bytes) → verdict bytes ≡ Err e
-  heading_fault e h = asked ∙ ap (λ (x : Result (Heading × List (List ℕ)) Fault). and_then x after_heading) (sym h)
-
   module _ (h : Heading) (ls : List (List ℕ)) (head : Ok (h, ls) ≡ heading (lines bytes)) where
     after : verdict bytes ≡ and_then (rows_from h.parameters 14 [] ls) (λ (rows : List Row). fitting (record { heading = h; rows = rows }))
     after = asked ∙ ap (λ (x : Result (Heading × List (List ℕ)) Fault). and_then x after_heading) (sym head)
-
-    pub rows_fault : (e : Fault) → rows_from h.parameters 14 [] ls ≡ Err e → verdict bytes ≡ Err e
-    rows_fault e r = after ∙ ap (λ (x : Result (List Row) Fault). and_then x (λ (rows : List Row). fitting (record { heading = h; rows = rows }))) r
 
     module _ (kept : List ℤ) (table : List StockRows) (places : length table ≡ stock_places) (rows : List Row) (r : rows_from h.parameters 14 [] ls ≡ Ok rows) (holds : Holds h.parameters kept table rows) where
       said : verdict bytes ≡ if_even (earliest (λ s. fault_in (get_or table s no_rows)) (length table)) (record { heading = h; rows = rows })

@@ -1,7 +1,7 @@
 -- One row more, and all rows. Assumes nothing.
 use Rattle.std.proofs.Common.{◌≡◌, ℕ, ◌+◌, ◌*◌, ◌<◌, ◌≤◌, true, false, List, [], ◌∷◌, ◌++◌, length, get_or, drop, set, ℤ, is_ok, Ok, Err, Result, sym, refl, ap, ◌∙◌, subst, arith}
 use Rattle.std.specs.List.{prefix_len}
-use Rattle.std.proofs.lemmas.List.{length-append, length-drop, drop-drop, drop_all}
+use Rattle.std.proofs.lemmas.List.{length-append, length-drop, drop-drop}
 use Rattle.std.proofs.lemmas.Bool.{true≢false, false≢true, cond-true, cond-false}
 use Rattle.parameter_text.specs.declared.terms.Question.{Question}
 use Rattle.parameter_text.specs.declared.terms.Question.TheVariants.{First}
@@ -19,7 +19,7 @@ use Rattle.file_rules.specs.Rows.{Row, repeated}
 use Rattle.file_rules.specs.Judged.{stock_places, with_stock, row_line, if_first, next_row, row_at, rows_from}
 use Rattle.file_rules.specs.Laid.{LaysContent}
 use Rattle.parameter_file.specs.Table.{no_rows, held, aside, taken, noted, Holds, Blank, RowRead}
-use Rattle.parameter_file.specs.Reading.{RowTaken, TakesRows}
+use Rattle.parameter_file.specs.Reading.{RowTaken}
 use Rattle.file_rules.proofs.RowLaws.{passes_row}
 use Rattle.parameter_file.proofs.TableLaws.{Whole, taken_is, holds_more, holds_none}
 
@@ -104,9 +104,6 @@ module _ (p : Parameters) (text : List ℕ) (at line : ℕ) (kept : List ℤ) (t
                 ∙ ap (rows_from p (line + 1) (s.0 ++ r ∷ [])) rest;
           },
         )
-
-pub rows_done : (p : Parameters) (text : List ℕ) (at line : ℕ) (kept : List ℤ) (table : List StockRows) → length text ≤ at → SomeSoFar p text at line kept table → TakesRows p text kept table (Ok tt)
-rows_done p text at line kept table h (rows, s) = (rows, s.said ∙ ap (λ (l : List ℕ). rows_from p line rows (lines l)) (drop_all at text h), s.holds)
 
 -- the fault of a line is the question that was judged on it
 

@@ -1,18 +1,16 @@
 -- Counts over the stocks. Assumes nothing.
-use Rattle.std.proofs.Common.{◌≡◌, ℕ, zero, suc, ◌+◌, ◌<◌, ◌≤◌, Bool, true, false, List, length, get_or, ℤ, is_some, is_ok, Ok, Err, Option, Result, sym, refl, ap, ◌∙◌, add-one, arith}
+use Rattle.std.proofs.Common.{◌≡◌, ℕ, zero, suc, ◌+◌, ◌<◌, ◌≤◌, Bool, true, false, List, length, get_or, ℤ, is_some, is_ok, Option, refl, ap, ◌∙◌, add-one, arith}
 use mir.Val.{bool_byte}
-use Rattle.std.proofs.lemmas.Bool.{false≢true}
 use Rattle.return_source.specs.declared.terms.Tier.{Tier}
 use Rattle.return_source.specs.declared.terms.EntitlementType.TheVariants.{Dsp, Sri}
 use Rattle.return_source.specs.Meaning.{tier_by, tier_of}
-use Rattle.parameter_heading.specs.declared.terms.Fault.{Fault}
 use Rattle.parameter_heading.specs.declared.terms.Heading.{Heading}
 use Rattle.parameter_file.specs.declared.terms.StockRows.{StockRows}
-use Rattle.file_rules.specs.Rows.{File, meaning}
+use Rattle.file_rules.specs.Rows.{meaning}
 use Rattle.file_rules.specs.Judged.{stock_places, verdict}
 use Rattle.parameter_file.specs.Table.{no_rows, Says}
 use Rattle.return_source.specs.declared.terms.ScenarioSet.TheVariants.{Historical, Stress}
-use Rattle.parameter_file.specs.Checked.{file_of, heading_in, rows_in, Indexed, tally, yes, in_tier, tier_count, rights_of, entitlement_count, tier_in, rights_in}
+use Rattle.parameter_file.specs.Checked.{file_of, heading_in, Indexed, tally, yes, in_tier, tier_count, rights_of, entitlement_count, tier_in, rights_in}
 use Rattle.parameter_file.proofs.IndexLaws.{place_says}
 
 pub tally_zero : (f : ℕ → ℕ) → tally f 0 ≡ 0
@@ -60,11 +58,3 @@ module _ (bytes : List ℕ) (kept : List ℤ) (table : List StockRows) (h : Head
       ap (λ (b : Bool). yes b + yes (is_some x.sri) + yes (is_some x.div)) (ap is_some w.3)
       ∙ ap (λ (b : Bool). yes (is_some (m.entitlement Dsp s)) + yes b + yes (is_some x.div)) (ap is_some w.4)
       ∙ ap (λ (b : Bool). yes (is_some (m.entitlement Dsp s)) + yes (is_some (m.entitlement Sri s)) + yes b) (ap is_some w.5))
-
--- a file that passes, by its verdict
-pub verdict_is : (bytes : List ℕ) (h : Heading) → is_ok (verdict bytes) ≡ true → h ≡ heading_in (verdict bytes) h → verdict bytes ≡ Ok (file_of bytes h)
-verdict_is bytes h ok e = by (verdict bytes) refl ok e
-  where
-    by : (v : Result File Fault) → verdict bytes ≡ v → is_ok v ≡ true → h ≡ heading_in v h → verdict bytes ≡ Ok (file_of bytes h)
-    by (Ok f) q k x = q ∙ ap (λ (g : Heading). Ok (record { heading = g; rows = f.rows })) (sym x) ∙ ap (λ (v : Result File Fault). Ok (record { heading = h; rows = rows_in v })) (sym q)
-    by (Err y) q k x = absurd (false≢true k)

@@ -41,10 +41,6 @@ aside (found.Rate n) vs = []
 aside (found.Right t e) vs = []
 aside found.Unread vs = []
 
--- the first of two lines, where there may be none before
-abbrev pub first_of : Option ℕ → ℕ → Option ℕ
-first_of before k = or_else before (Some k)
-
 -- where a stock's returns in a set start
 abbrev pub place_in : StockRows → ScenarioSet → Option ℕ
 place_in e Historical = e.historical

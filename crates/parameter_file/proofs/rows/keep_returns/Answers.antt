@@ -6,8 +6,8 @@ use Rattle.parameter_rows.specs.Returns.{returns_cells, Agrees}
 use Rattle.parameter_file.proofs.KeptLaws.{kept_after, kept_returns}
 use Rattle.parameter_file.proofs.rows.keep_returns.Goals as goal
 
-pub returns : goal.returns
-returns c =
+pub returns-clause-kept : goal.returns-clause-kept
+returns-clause-kept c =
     let K = vec_items c.args.kept.now in
     let S = c.as_mut_slice-row.result.now in
     let start = c.len-start.result in
@@ -23,7 +23,4 @@ returns c =
     let part : length (take (length S - start) (drop start S)) ≡ n = length-take-le (length S - start) (drop start S) (omega (arith, length-drop start S)) ∙ omega (arith, size) in
     let row : length R ≡ n = omega (arith, part) in
     let judged : Agrees (returns_cells n (cells (line_of c.args.text.now))) c.returns_row.result R = subst (λ (k : ℕ). Agrees (returns_cells k (cells (line_of c.args.text.now))) c.returns_row.result R) part c.returns_row.ensures.judged in
-    record {
-      kept = kept_returns n c.args.text.now K _ R c.returns_row.result c.requires.some judged c.returns_row.ensures.next (kept_after K R _ _ S _ start n grown len front row);
-      room = c.resize.ensures.capacity;
-    }
+    kept_returns n c.args.text.now K _ R c.returns_row.result c.requires.some judged c.returns_row.ensures.next (kept_after K R _ _ S _ start n grown len front row)

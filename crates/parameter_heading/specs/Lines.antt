@@ -21,6 +21,11 @@ same_text [] (y ∷ ys) = false
 same_text (x ∷ xs) [] = false
 same_text (x ∷ xs) (y ∷ ys) = x == y && same_text xs ys
 
+-- is there a first cell, and does it have this text?
+abbrev pub first_is : List ℕ → List (List ℕ) → Bool
+first_is text [] = false
+first_is text (c ∷ cs) = same_text c text
+
 -- one cell and no more
 abbrev pub one_cell : List (List ℕ) → Result (List ℕ) Question
 one_cell [] = Err Cells

@@ -65,10 +65,8 @@ impl Reading for IntegerRule {
 fn share(cell: &[u8]) -> Result<u32, Question>
     ensures { result ≡ share_cell cell.now }
 {
-    match SHARE.value(cell) {
-        Ok(v) => Ok(v.unsigned_abs() as u32),
-        Err(q) => Err(q),
-    }
+    let share = SHARE.value(cell)?;
+    Ok(share.unsigned_abs() as u32)
 }
 
 // The weight of the historical scenarios.
@@ -132,8 +130,7 @@ pub(crate) fn tail(level: u32, count: u32) -> u32
 fn with_tail(count: u32, level: u32) -> Result<u32, Question>
     ensures { result ≡ with_tail count level }
 {
-    let tail = tail(level, count);
-    if tail >= 1 && tail <= LONGEST_TAIL {
+    if (1..=LONGEST_TAIL).contains(&tail(level, count)) {
         Ok(level)
     } else {
         Err(Question::Range)
@@ -167,9 +164,6 @@ impl Reading for HolidayFactor {
     ghost judged = { λ _. factor_cell };
 
     fn read(&self, cell: &[u8]) -> Result<u64, Question> {
-        match FACTOR.value(cell) {
-            Ok(v) => Ok(v.unsigned_abs()),
-            Err(q) => Err(q),
-        }
+        FACTOR.value(cell).map(|factor| factor.unsigned_abs())
     }
 }

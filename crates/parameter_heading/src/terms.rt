@@ -3,14 +3,14 @@ use parameter_text::{Date, Question};
 use return_source::Parameters;
 
 // Why a parameter file is refused: the first question answered no, and the line it was asked of, 0 for the whole file.
-#[derive(Clone, Copy)]
+#[derive(Clone, Copy, PartialEq, Eq)]
 pub struct Fault {
     pub question: Question,
     pub line: u32,
 }
 
 // A confidence level.
-#[derive(Clone, Copy)]
+#[derive(Clone, Copy, PartialEq, Eq)]
 pub struct Level {
     pub ten_thousandths: u32,
 }

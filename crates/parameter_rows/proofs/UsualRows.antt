@@ -1,6 +1,9 @@
 -- The cells read so far, the commas after the last one, and the line that they make. Assumes nothing.
-use Rattle.std.proofs.Common.{◌≡◌, ℕ, ◌+◌, ◌-◌, ◌<◌, ◌≤◌, List, [], ◌∷◌, ◌++◌, length, get_or, take, drop, set, replicate, ℤ, IfSome, Some, None, Ok, Option, sym, refl, ap, ◌∙◌, subst, inl, inr, arith}
-use Rattle.std.proofs.lemmas.List.{take-append-drop, drop-drop, drop_all, take_all, append_assoc, append-nil, take_more_set, length-set, replicate_more}
+use Rattle.std.proofs.Common.{◌≡◌, ℕ, suc, ◌+◌, true, false, cond, eqb, ◌-◌, ◌<◌, ◌≤◌, List, [], ◌∷◌, ◌++◌, length, get_or, take, drop, set, replicate, ℤ, IfSome, Some, None, Ok, Option, sym, refl, ap, ◌∙◌, subst, inl, inr, arith}
+use Rattle.std.specs.List.{prefix_len}
+use Rattle.std.proofs.lemmas.List.Sums.{prefix_len-le-length}
+use Rattle.std.proofs.lemmas.Bool.{eqb-true}
+use Rattle.std.proofs.lemmas.List.{take-append-drop, drop-drop, drop_all, take_all, append_assoc, append-nil, take_more_set, length-set, length-drop}
 use Rattle.parameter_text.specs.Cuts.{cells, spliced, line_of, after_line, Starts}
 use Rattle.parameter_rows.specs.Returns.{SpellsReturn, SpellReturns, Returns, returns_cells}
 use Rattle.parameter_rows.specs.Reading.{Ends}
@@ -84,33 +87,29 @@ pub some_both : {X : Type 0} (o : Option X) (P Q R : X → Type 0) → ((x : X) 
 some_both None P Q R f h k = tt
 some_both (Some x) P Q R f h k = f x h k
 
+-- the commas in front
+pub commas_run : (xs : List ℕ) → xs ≡ replicate (prefix_len (λ x. eqb x 44) xs) 44 ++ drop (prefix_len (λ x. eqb x 44) xs) xs
+commas_run [] = refl
+commas_run (x ∷ xs) =
+    let k = prefix_len (λ x. eqb x 44) xs in
+    elim (eqb x 44) as (λ t. eqb x 44 ≡ t → (x ∷ xs) ≡ replicate (cond t (1 + k) 0) 44 ++ drop (cond t (1 + k) 0) (x ∷ xs)) [
+      | true ↦ λ e. let one : 1 + k ≡ suc k = omega arith in rw one (ap (λ y. y ∷ xs) (eqb-true x 44 e) ∙ ap (λ (l : List ℕ). 44 ∷ l) (commas_run xs))
+      | false ↦ λ _. refl
+    ]
+    refl
+
 -- commas, and then the line's end
-abbrev pub Commas : List ℕ → ℕ → ℕ → Type 0
-Commas xs from at = (from ≤ at) × (at ≤ length xs) × (drop from xs ≡ replicate (at - from) 44 ++ drop at xs)
+pub ends_after : (xs rest : List ℕ) (k : ℕ) → k ≡ prefix_len (λ x. eqb x 44) xs → Starts (drop k xs) [] rest → Ends xs rest
+ends_after xs rest k e h =
+    let run : xs ≡ replicate k 44 ++ drop k xs = subst (λ (n : ℕ). xs ≡ replicate n 44 ++ drop n xs) (sym e) (commas_run xs) in
+    let s : Starts (replicate k 44 ++ drop k xs) (replicate k 44 ++ []) rest = before (replicate k 44) (drop k xs) [] rest h in
+    (k, subst (λ (l : List ℕ). Starts l (replicate k 44) rest) (sym run) (subst (λ (l : List ℕ). Starts (replicate k 44 ++ drop k xs) l rest) (append-nil (replicate k 44)) s))
 
-module _ (xs : List ℕ) (from at : ℕ) (c : Commas xs from at) where
-  onward : (l : List ℕ) → drop at xs ≡ l → drop from xs ≡ replicate (at - from) 44 ++ l
-  onward l e = c.2 ∙ ap (λ (z : List ℕ). replicate (at - from) 44 ++ z) e
-
-  pub commas_more : at < length xs → get_or xs at 0 ≡ 44 → Commas xs from (at + 1)
-  commas_more h e =
-      let rest = drop (at + 1) xs in
-      let on : at - from + 1 ≡ at + 1 - from = omega arith in
-      let one : ◌≡◌ {A = List ℕ} (replicate (at - from) 44 ++ 44 ∷ []) (replicate (at + 1 - from) 44) = replicate_more (at - from) 44 ∙ ap (λ z. replicate z 44) on in
-      (omega arith, omega arith, onward (44 ∷ rest) (byte_at xs at 44 h e) ∙ sym (append_assoc (replicate (at - from) 44) (44 ∷ []) rest) ∙ ap (λ (l : List ℕ). l ++ rest) one)
-
-  pub ends_lf : at < length xs → get_or xs at 0 ≡ 10 → Ends (drop from xs) (drop (at + 1) xs)
-  ends_lf h e = (at - from, inl (onward _ (byte_at xs at 10 h e)))
-
-  pub ends_cr : at + 1 < length xs → get_or xs at 0 ≡ 13 → get_or xs (at + 1) 0 ≡ 10 → Ends (drop from xs) (drop (at + 2) xs)
-  ends_cr h e f =
-      let two : at + 1 + 1 ≡ at + 2 = omega arith in
-      (at - from, inr (inl (onward _ (byte_at xs at 13 (omega arith) e ∙ ap (λ (l : List ℕ). 13 ∷ l) (byte_at xs (at + 1) 10 h f ∙ ap (λ z. 10 ∷ drop z xs) two)))))
-
-  pub ends_text : length xs ≤ at → Ends (drop from xs) (drop at xs)
-  ends_text h =
-      let none : drop at xs ≡ [] = drop_all at xs h in
-      (at - from, inr (inr (onward [] none ∙ append-nil (replicate (at - from) 44), none)))
-
-pub commas_none : (xs : List ℕ) (from : ℕ) → from ≤ length xs → Commas xs from from
-commas_none xs from h = let z : from - from ≡ 0 = omega arith in (omega arith, h, rw z refl)
+-- the same at a place of the text, where what is left is cut off twice
+pub line_ended : (xs line last : List ℕ) (from k n : ℕ) → from ≤ length xs → line ≡ drop from xs → last ≡ drop k line → k ≡ prefix_len (λ x. eqb x 44) line → n ≤ length last → Starts last [] (drop n last) → Ends (drop from xs) (drop (from + k + n) xs) × (from + k + n ≤ length xs)
+line_ended xs line last from k n h a b e l s =
+    let there : drop n last ≡ drop (from + k + n) xs = ap (drop n) (b ∙ ap (drop k) a ∙ drop-drop k from xs) ∙ drop-drop n (from + k) xs in
+    let ends : Ends line (drop n last) = ends_after line (drop n last) k e (subst (λ (m : List ℕ). Starts m [] (drop n last)) b s) in (
+      subst (Ends (drop from xs)) there (subst (λ (m : List ℕ). Ends m (drop n last)) a ends),
+      omega (arith, l, h, e, prefix_len-le-length (λ x. eqb x 44) line, ap length b, length-drop k line, ap length a, length-drop from xs),
+    )

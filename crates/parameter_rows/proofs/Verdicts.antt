@@ -1,11 +1,13 @@
 -- One cell more of a verdict, and the verdict of a whole line. Assumes nothing.
-use Rattle.std.proofs.Common.{◌≡◌, ℕ, suc, ◌+◌, ◌-◌, ◌<◌, ◌≤◌, leb, List, [], ◌∷◌, ◌++◌, length, take, drop, set, ℤ, Some, None, Ok, Err, Option, Result, sym, refl, ap, ◌∙◌, ⊎_elim, arith}
-use Rattle.std.proofs.lemmas.List.{take_more_set, length-drop, take-append-drop, length-take-le, append_assoc, take_all, length-append, take_at, drop_at}
+use Rattle.std.proofs.Common.{◌≡◌, ℕ, suc, ◌+◌, ◌-◌, ◌<◌, ◌≤◌, Bool, true, false, ◌&&◌, cond, leb, List, [], ◌∷◌, ◌++◌, length, take, drop, set, ℤ, Some, None, Ok, Err, Option, Result, sym, refl, ap, ◌∙◌, ⊎_elim, arith}
+use Rattle.std.proofs.lemmas.List.{take_more_set, length-drop, take-append-drop, length-take-le, append_assoc, take_all, length-append, take_at, drop_at, drop_all}
 use Rattle.std.proofs.lemmas.Bool.{cond-true, cond-false, cond_both, leb-true, le-leb, lt-leb, cases_lt}
 use Rattle.parameter_text.specs.declared.terms.Question.{Question}
+use Rattle.parameter_text.specs.declared.terms.Question.TheVariants.{Cells}
+use Rattle.parameter_text.specs.Cuts.{all_empty}
 use Rattle.parameter_text.specs.Questions.{question_number, sooner, both}
-use Rattle.parameter_rows.specs.Returns.{return_cell, verdict}
-use Rattle.parameter_rows.specs.Asking.{sooner_failed, outcome, Needed}
+use Rattle.parameter_rows.specs.Returns.{return_cell, verdict, returns_cells}
+use Rattle.parameter_rows.specs.Asking.{sooner_failed, outcome, asked}
 
 -- the first of three questions, however they are grouped
 
@@ -94,7 +96,31 @@ module _ (L left left' : List (List ℕ)) (i : ℕ) (failed : Option Question) (
       elim failed as (λ w. also (outcome w (take i row)) (Err q) ≡ Err (sooner_failed w q)) [ None ↦ refl | Some x ↦ refl ] in
       record { within = omega (arith, d.2); rest = d.0; said = more c (Err q) e j ∙ also_err }
 
-pub needed_all : (L left : List (List ℕ)) (i : ℕ) (failed : Option Question) (row : List ℤ) → i ≡ length row → JudgedTo L left i failed (take i row) → Needed L left failed row
-needed_all L left i failed row e s =
-    let all : take i row ≡ row = take_all i row (omega arith) in
-    record { enough = omega (arith, s.within); rest = s.rest ∙ ap (λ k. drop k L) e; said = ap (λ k. verdict (take k L)) (sym e) ∙ s.said ∙ ap (outcome failed) all }
+and_true : (b : Bool) → (b && true) ≡ b
+and_true true = refl
+and_true false = refl
+
+and_false : (b : Bool) → (b && false) ≡ false
+and_false true = refl
+and_false false = refl
+
+-- all cells are judged
+pub judged_all : (L left : List (List ℕ)) (i : ℕ) (failed : Option Question) (row : List ℤ) → i ≡ length row → JudgedTo L left i failed (take i row) → (asked (length row) L ≡ outcome failed row) × (left ≡ drop (length row) L)
+judged_all L left i failed row e s =
+    let all : take i row ≡ row = take_all i row (omega arith) in (
+      cond-true (leb (length row) (length L)) _ _ (le-leb (length row) (length L) (omega (arith, s.within))) ∙ ap (λ k. verdict (take k L)) (sym e) ∙ s.said ∙ ap (outcome failed) all,
+      s.rest ∙ ap (λ k. drop k L) e,
+    )
+
+-- no cell is left for the next value
+pub judged_few : (L left : List (List ℕ)) (i : ℕ) (failed : Option Question) (row : List ℤ) → i < length row → left ≡ [] → JudgedTo L left i failed (take i row) → (asked (length row) L ≡ Err Cells) × ([] ≡ drop (length row) L)
+judged_few L left i failed row h e s =
+    let less : length L ≤ i = fewer L left left i failed row s e in
+    (cond-false (leb (length row) (length L)) _ _ (lt-leb (length row) (length L) (omega arith)), sym (drop_all (length row) L (omega arith)))
+
+-- the other cells are empty
+pub asked_all : (n : ℕ) (cs : List (List ℕ)) → all_empty (drop n cs) ≡ true → asked n cs ≡ returns_cells n cs
+asked_all n cs e = ap (λ b. cond b (verdict (take n cs)) (Err Cells)) (sym (ap (λ b. leb n (length cs) && b) e ∙ and_true (leb n (length cs))))
+
+pub spare_cells : (n : ℕ) (cs : List (List ℕ)) → all_empty (drop n cs) ≡ false → returns_cells n cs ≡ Err Cells
+spare_cells n cs e = ap (λ b. cond b (verdict (take n cs)) (Err Cells)) (ap (λ b. leb n (length cs) && b) e ∙ and_false (leb n (length cs)))

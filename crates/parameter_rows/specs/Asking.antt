@@ -1,6 +1,7 @@
 -- The questions of a row, cell after cell. Assumes nothing.
-use Rattle.std.specs.Prelude.{◌≡◌, ℕ, ◌≤◌, List, length, take, drop, ℤ, Some, None, Ok, Err, Option, Result}
+use Rattle.std.specs.Prelude.{ℕ, cond, List, length, take, ℤ, Some, None, Ok, Err, Option, Result, nat_le}
 use Rattle.parameter_text.specs.declared.terms.Question.{Question}
+use Rattle.parameter_text.specs.declared.terms.Question.TheVariants.{Cells}
 use Rattle.parameter_text.specs.Questions.{sooner}
 use Rattle.parameter_rows.specs.Returns.{verdict}
 
@@ -14,8 +15,6 @@ abbrev pub outcome : Option Question → List ℤ → Result (List ℤ) Question
 outcome None vs = Ok vs
 outcome (Some q) vs = Err q
 
--- the first cells of those before are judged, as many as there are values, and the others are left
-pub record Needed (before after : List (List ℕ)) (failed : Option Question) (vs : List ℤ) : Type 0 where
-  pub enough : length vs ≤ length before
-  pub rest : after ≡ drop (length vs) before
-  pub said : verdict (take (length vs) before) ≡ outcome failed vs
+-- the first n cells are asked in their turn, if there are so many
+abbrev pub asked : ℕ → List (List ℕ) → Result (List ℤ) Question
+asked n cs = cond (nat_le n (length cs)) (verdict (take n cs)) (Err Cells)

@@ -1,9 +1,9 @@
 // Rows of returns in any spelling, judged question by question: what decides where the usual spelling is not found.
-ghost use Rattle.std.specs.Prelude.{◌≡◌, ℕ, ◌<◌, ◌≤◌, length, drop, IfOk, MatchOption};
+ghost use Rattle.std.specs.Prelude.{◌≡◌, ℕ, ◌≤◌, length, drop, IfOk};
 ghost use Rattle.parameter_text.specs.Cuts.{cells as cells_of, line_of, after_line};
 ghost use Rattle.parameter_text.specs.Left.{cells_left};
 ghost use Rattle.parameter_rows.specs.Returns.{return_cell, returns_cells, ReturnsPass, Agrees};
-ghost use Rattle.parameter_rows.specs.Asking.{sooner_failed, Needed};
+ghost use Rattle.parameter_rows.specs.Asking.{sooner_failed, asked};
 
 use super::LARGEST_RETURN;
 use parameter_text::{Cells, DecimalRule, Places, Question, front_line};
@@ -27,26 +27,26 @@ fn return_value(cell: &[u8]) -> Result<i32, Question>
 fn first_failed(failed: Option<Question>, q: Question) -> Question
     ensures { result ≡ sooner_failed failed q }
 {
-    match failed {
-        None => q,
-        Some(p) => p.sooner(q),
-    }
+    failed.map_or(q, |p| p.sooner(q))
 }
 
-// Judges as many cells as the row has places: the first question that one of them fails, if any.
-// None where there are fewer cells.
-fn needed(cells: &mut Cells<'_>, row: &mut [i32]) -> Option<Option<Question>>
-    ensures { MatchOption result (length (cells_left cells.old) < length row.old) (λ failed. Needed (cells_left cells.old) (cells_left cells.new) failed row.new) }
+// Judges as many cells as the row has places: the first question that one of them fails, or that there are fewer cells.
+fn needed(cells: &mut Cells<'_>, row: &mut [i32]) -> Result<(), Question>
+    ensures judged { Agrees (asked (length row.old) (cells_left cells.old)) result row.new }
+    ensures rest { cells_left cells.new ≡ drop (length row.old) (cells_left cells.old) }
 {
     let mut failed = None;
     for value in row.iter_mut() {
-        let cell = cells.next_cell()?;
+        let cell = cells.next().ok_or(Question::Cells)?;
         match return_value(cell) {
             Ok(v) => *value = v,
             Err(q) => failed = Some(first_failed(failed, q)),
         }
     }
-    Some(failed)
+    match failed {
+        None => Ok(()),
+        Some(q) => Err(q),
+    }
 }
 
 // Judges a line as a row of returns. The cells are counted before any is asked for its form.
@@ -54,15 +54,11 @@ fn judged_line(line: &[u8], row: &mut [i32]) -> Result<(), Question>
     ensures { Agrees (returns_cells (length row.old) (cells_of line.now)) result row.new }
 {
     let mut cells = Cells::new(line);
-    let Some(failed) = needed(&mut cells, row) else {
-        return Err(Question::Cells);
-    };
-    if !cells.are_empty() {
-        return Err(Question::Cells);
-    }
-    match failed {
-        None => Ok(()),
-        Some(q) => Err(q),
+    let judged = needed(&mut cells, row);
+    if cells.are_empty() {
+        judged
+    } else {
+        Err(Question::Cells)
     }
 }
 

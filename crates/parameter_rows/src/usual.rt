@@ -1,7 +1,7 @@
 // Rows of returns in their usual spelling: perhaps a minus, one digit, and perhaps a point and one to eight digits.
 // A row is read in one pass over its line, since the rows are nearly all of a parameter file.
-ghost use Rattle.std.specs.Prelude.{◌≡◌, ◌+◌, ◌-◌, ◌<◌, ◌≤◌, length, take, drop, IfSome, Ok, OnSome};
-ghost use Rattle.parameter_text.specs.Cuts.{cells, line_of, after_line};
+ghost use Rattle.std.specs.Prelude.{◌≡◌, ◌+◌, ◌-◌, ◌<◌, ◌≤◌, [], length, take, drop, IfSome, Ok, OnSome};
+ghost use Rattle.parameter_text.specs.Cuts.{cells, line_of, after_line, Starts};
 ghost use Rattle.parameter_text.specs.Decimals.{signed};
 ghost use Rattle.parameter_rows.specs.Returns.{largest_return, SpellsReturn, returns_cells, ReturnsPass};
 ghost use Rattle.parameter_rows.specs.Reading.{Digits, Sized, Ends};
@@ -36,16 +36,14 @@ fn digits(text: &[u8], at: usize, whole: u32) -> (u32, usize)
     ensures { Digits (drop at text.now) whole result.0 result.1 }
 {
     let mut n = whole;
-    let mut k = 0;
-    while k < PLACES {
+    for k in 0..PLACES {
         let b = text[at + k];
-        if b < b'0' || b > b'9' {
+        if !b.is_ascii_digit() {
             return (n, k);
         }
-        n = n * 10 + (b - b'0') as u32;
-        k += 1;
+        n = n * 10 + u32::from(b - b'0');
     }
-    (n, k)
+    (n, PLACES)
 }
 
 // The size in hundred-millionths that is written from `at` on without a sign, and where it ends.
@@ -55,10 +53,10 @@ fn size(text: &[u8], at: usize) -> Option<(u32, usize)>
     ensures ends { IfSome result (λ p. (at < p.1) × (p.1 ≤ at + 10)) }
 {
     let b = text[at];
-    if b < b'0' || b > b'9' {
+    if !b.is_ascii_digit() {
         return None;
     }
-    let whole = (b - b'0') as u32;
+    let whole = u32::from(b - b'0');
     if text[at + 1] != b'.' {
         return Some((whole * UNITS[0], at + 1));
     }
@@ -95,26 +93,29 @@ fn cell(text: &[u8], from: usize) -> Option<(i32, usize)>
     Some((with_sign(minus, n), next))
 }
 
+// How long the line's end is that stands in front, if one does: at the text's end it has no byte.
+fn end_length(rest: &[u8]) -> Option<usize>
+    ensures ends { IfSome result (λ n. Starts rest.now [] (drop n rest.now)) }
+    ensures within { IfSome result (λ n. n ≤ length rest.now) }
+{
+    match rest {
+        [] => Some(0),
+        [b'\n', ..] => Some(1),
+        [b'\r', b'\n', ..] => Some(2),
+        _ => None,
+    }
+}
+
 // Where the next line starts, if nothing but commas stands between `from` and the line's end.
 fn line_end(text: &[u8], from: usize) -> Option<usize>
     requires { from ≤ length text.now }
     ensures ends { IfSome result (λ next. Ends (drop from text.now) (drop next text.now)) }
     ensures within { IfSome result (λ next. next ≤ length text.now) }
 {
-    let mut at = from;
-    while at < text.len() && text[at] == b',' {
-        at += 1;
-    }
-    if at >= text.len() {
-        return Some(at);
-    }
-    if text[at] == b'\n' {
-        return Some(at + 1);
-    }
-    if text[at] == b'\r' && at + 1 < text.len() && text[at + 1] == b'\n' {
-        return Some(at + 2);
-    }
-    None
+    let rest = &text[from..];
+    let commas = rest.iter().take_while(|b| **b == b',').count();
+    let length = end_length(&rest[commas..])?;
+    Some(from + commas + length)
 }
 
 // A row of returns from the front of `text`, if each has the usual spelling: where the next line starts.

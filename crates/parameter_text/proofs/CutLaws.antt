@@ -1,10 +1,10 @@
 -- Cutting a list at each b, and putting the parts together again. Assumes nothing.
-use Rattle.std.proofs.Common.{◌≡◌, ℕ, zero, suc, ◌+◌, ◌-◌, ◌<◌, ◌≤◌, true, false, cond, not, eqb, List, [], ◌∷◌, ◌++◌, length, take, drop, replicate, sym, refl, ap, ◌∙◌, arith}
-use Rattle.std.specs.List.{prefix_len, AllByRecursion as All}
+use Rattle.std.proofs.Common.{◌≡◌, ℕ, zero, suc, ◌+◌, ◌-◌, ◌<◌, ◌≤◌, Bool, true, false, ◌&&◌, cond, not, eqb, ltb, Some, None, Option, List, [], ◌∷◌, ◌++◌, length, take, drop, replicate, sym, refl, ap, ◌∙◌, ⊎_elim, arith}
+use Rattle.std.specs.List.{prefix_len, position, list_all, AllByRecursion as All}
 use Rattle.std.proofs.lemmas.List.{append_assoc, append-nil, take_rest}
-use Rattle.std.proofs.lemmas.Bool.{cond-true, cond-false, eqb-true, eqb-false, ne_eqb}
+use Rattle.std.proofs.lemmas.Bool.{cond-true, cond-false, eqb-true, eqb-false, ne_eqb, cases_lt, lt-ltb, le-ltb}
 use Rattle.std.proofs.lemmas.Bool.Decides.{nat_tests}
-use Rattle.parameter_text.specs.Cuts.{onto, split, spliced, all_empty}
+use Rattle.parameter_text.specs.Cuts.{onto, split, spliced, empty, all_empty}
 
 -- no byte of a part is the one that parts are cut at
 abbrev pub Apart : ℕ → List ℕ → Type 0
@@ -113,9 +113,56 @@ split_whole b (x ∷ xs) h =
     ]
     h
 
--- as `&s[0..n]` and `&s[n + 1..]` read
-pub split_at : (b : ℕ) (xs : List ℕ) (n : ℕ) → n ≡ before b xs → n < length xs → split b xs ≡ take (n - 0) xs ∷ split b (take (length xs - (n + 1)) (drop (n + 1) xs))
-split_at b xs n e h =
-    let z : n - 0 ≡ n = omega arith in
-    let k : before b xs < length xs = omega arith in
-    rw (z, take_rest xs (n + 1), e) (split_front b xs k)
+some_not_none : (n : ℕ) → ◌≡◌ {A = Option ℕ} (Some n) None → ⊥
+some_not_none n e = let z : ◌≡◌ {A = ℕ} 0 1 = cc in omega arith
+
+module _ (b : ℕ) (xs : List ℕ) where
+  -- as `&s[..n]` and `&s[n + 1..]` read
+  pub split_at : (n : ℕ) → n ≡ before b xs → n < length xs → split b xs ≡ take n xs ∷ split b (take (length xs - (n + 1)) (drop (n + 1) xs))
+  split_at n e h =
+      let k : before b xs < length xs = omega arith in
+      rw (take_rest xs (n + 1), e) (split_front b xs k)
+
+  -- where `position` finds the first b
+  pub found_at : (n : ℕ) → Some n ≡ position (λ x. eqb x b) xs → (n ≡ before b xs) × (n < length xs)
+  found_at n e =
+      ⊎_elim
+      (λ (h : before b xs < length xs). let same : n ≡ before b xs = (let f = e ∙ cond-true (ltb (before b xs) (length xs)) _ _ (lt-ltb (before b xs) (length xs) h) in cc) in (same, omega arith))
+      (λ (h : length xs ≤ before b xs). absurd (some_not_none n (e ∙ cond-false (ltb (before b xs) (length xs)) _ _ (le-ltb (before b xs) (length xs) h))))
+      (cases_lt (before b xs) (length xs))
+
+  pub found_nowhere : None ≡ position (λ x. eqb x b) xs → length xs ≤ before b xs
+  found_nowhere e =
+      ⊎_elim
+      (λ (h : before b xs < length xs). absurd (some_not_none (before b xs) (sym (e ∙ cond-true (ltb (before b xs) (length xs)) _ _ (lt-ltb (before b xs) (length xs) h)))))
+      (λ (h : length xs ≤ before b xs). h)
+      (cases_lt (before b xs) (length xs))
+
+  -- two parts or more are cut at the first b
+  pub cut_parts : (line rest : List ℕ) → split b xs ≡ line ∷ split b rest → (before b xs < length xs) × (line ≡ take (before b xs) xs) × (rest ≡ drop (before b xs + 1) xs)
+  cut_parts line rest e =
+      let some = split_some b rest in
+      let h : before b xs < length xs =
+      ⊎_elim
+      (λ (k : before b xs < length xs). k)
+      (λ (k : length xs ≤ before b xs). absurd (omega (arith, ap length (sym (split_whole b xs k) ∙ e ∙ ap (λ (l : List (List ℕ)). line ∷ l) some.2))))
+      (cases_lt (before b xs) (length xs)) in
+      let two : line ∷ split b rest ≡ take (before b xs) xs ∷ split b (drop (before b xs + 1) xs) = sym e ∙ split_front b xs h in
+      let tails : split b rest ≡ split b (drop (before b xs + 1) xs) = cc in
+      (h, cc, spliced_split b rest ∙ ap (spliced b) tails ∙ sym (spliced_split b (drop (before b xs + 1) xs)))
+
+  -- one part is cut nowhere
+  pub cut_nowhere : (line : List ℕ) → split b xs ≡ line ∷ [] → length xs ≤ before b xs
+  cut_nowhere line e =
+      ⊎_elim
+      (λ (h : before b xs < length xs). let some = split_some b (drop (before b xs + 1) xs) in absurd (omega (arith, ap length (sym e ∙ split_front b xs h ∙ ap (λ (l : List (List ℕ)). take (before b xs) xs ∷ l) some.2))))
+      (λ (h : length xs ≤ before b xs). h)
+      (cases_lt (before b xs) (length xs))
+
+pub all_empty_all : (cs : List (List ℕ)) → all_empty cs ≡ list_all empty cs
+all_empty_all [] = refl
+all_empty_all (c ∷ cs) = ap (λ (b : Bool). empty c && b) (all_empty_all cs)
+
+pub empty_length : (c : List ℕ) → eqb (length c) 0 ≡ empty c
+empty_length [] = refl
+empty_length (x ∷ c) = ne_eqb (length (x ∷ c)) 0 (λ e. omega arith)

@@ -20,9 +20,6 @@ sized_fact low high bs h =
     let q = and_parts (leb (length bs) high) _ p.1 in
     (digits_fact bs q.1, leb-true low (length bs) p.0, leb-true (length bs) high q.0)
 
-pub sized_small : (low high : ℕ) (bs : List ℕ) → high ≤ 4 → true ≡ sized low high bs → All Digit bs × (length bs ≤ 9)
-sized_small low high bs k h = let s = sized_fact low high bs (sym h) in (s.0, omega (arith, s.2))
-
 digit_apart : (x : ℕ) → Digit x → x ≡ 47 → ⊥
 digit_apart x h e = omega arith
 

@@ -1,9 +1,8 @@
 -- Loops over digits. Assumes nothing.
-use Rattle.std.proofs.Common.{◌≡◌, ℕ, suc, ◌+◌, ◌-◌, ◌*◌, ◌^◌, ◌<◌, ◌≤◌, Bool, true, false, ◌&&◌, List, length, get_or, drop, sym, refl, ap, ◌∙◌, mul-le-mul_right, mul_assoc, mul-le-mul_left, arith}
-use native.Mathlib.Nat.{one-le-pow, pow-succ'}
-use Rattle.std.specs.List.{AllByRecursion as All}
+use Rattle.std.proofs.Common.{◌≡◌, ℕ, suc, ◌+◌, ◌-◌, ◌*◌, ◌^◌, ◌<◌, ◌≤◌, Bool, true, false, ◌&&◌, List, [], ◌∷◌, length, get_or, drop, sym, refl, ap, ◌∙◌, mul-le-mul_right, mul_assoc, mul-le-mul_left, arith}
+use native.Mathlib.Nat.{one-le-pow, pow-succ', pow-le-pow_right}
+use Rattle.std.specs.List.{AllByRecursion as All, list_all}
 use Rattle.std.proofs.lemmas.List.{at_drop_more, at_drop_all}
-use Rattle.std.proofs.ByRecursion.{All-get_or}
 use Rattle.parameter_text.specs.Digits.{Digit, every, number}
 
 module _ (p : ℕ → Bool) (xs : List ℕ) (i : ℕ) where
@@ -27,25 +26,48 @@ room_step w r d p q h =
     let less : w * 10 + d + 1 ≤ (w + 1) * 10 = omega arith in
     omega (arith, mul-le-mul_right (10 ^ (r - 1)) less)
 
--- digits read so far, and the number that they write
+pub every_all : (p : ℕ → Bool) (xs : List ℕ) → every p xs ≡ list_all p xs
+every_all p [] = refl
+every_all p (x ∷ xs) = ap (λ (b : Bool). p x && b) (every_all p xs)
+
+-- bytes read so far, and the number that they write: no byte adds more than 207 to ten times the number before it
 pub record SoFar (xs : List ℕ) (i n : ℕ) : Type 0 where
   pub value : number n (drop i xs) ≡ number 0 xs
-  pub small : (n + 1) * 10 ^ (10 - i) ≤ 10000000000
+  pub small : n + 23 ≤ 23 * 10 ^ i
 
 pub so_far_none : (xs : List ℕ) → SoFar xs 0 0
 so_far_none xs = record { value = refl; small = omega arith }
 
-module _ (xs : List ℕ) (i n : ℕ) (all : All Digit xs) (few : length xs ≤ 10) (s : SoFar xs i n) where
-  pub digit_at : i < length xs → Digit (get_or xs i 0)
-  digit_at h = All-get_or Digit xs i 0 h all
+pub next_small : (n i x : ℕ) → n + 23 ≤ 23 * 10 ^ i → x < 256 → n * 10 + (x - 48) + 23 ≤ 23 * 10 ^ (i + 1)
+next_small n i x h k =
+    let ten : 10 ^ suc i ≡ 10 * 10 ^ i = pow-succ' 10 i in
+    let one : i + 1 ≡ suc i = omega arith in
+    rw one (omega (arith, ten))
 
-  pub next_small : i < length xs → (n * 10 + (get_or xs i 0 - 48) + 1) * 10 ^ (10 - i - 1) ≤ 10000000000
-  next_small h = let d = digit_at h in room_step n (10 - i) (get_or xs i 0 - 48) (omega arith) (omega arith) s.small
+pub room : (n i : ℕ) → i ≤ 10 → n + 23 ≤ 23 * 10 ^ i → n < 230000000000
+room n i k h = let less : 10 ^ i ≤ 10 ^ 10 = pow-le-pow_right (omega arith) k in omega arith
 
-  pub so_far_more : i < length xs → SoFar xs (i + 1) (n * 10 + (get_or xs i 0 - 48))
-  so_far_more h =
-      let less : 10 - (i + 1) ≡ 10 - i - 1 = omega arith in
-      record { value = sym (at_drop_more (number n) xs i 0 h) ∙ s.value; small = rw less (next_small h) }
+pub so_far_more : (xs : List ℕ) (i n : ℕ) → SoFar xs i n → i < length xs → get_or xs i 0 < 256 → SoFar xs (i + 1) (n * 10 + (get_or xs i 0 - 48))
+so_far_more xs i n s h k = record { value = sym (at_drop_more (number n) xs i 0 h) ∙ s.value; small = next_small n i (get_or xs i 0) s.small k }
 
-  pub so_far_all : length xs ≤ i → n ≡ number 0 xs
-  so_far_all h = sym (at_drop_all (number n) xs i h) ∙ s.value
+pub so_far_all : (xs : List ℕ) (i n : ℕ) → SoFar xs i n → length xs ≤ i → n ≡ number 0 xs
+so_far_all xs i n s h = sym (at_drop_all (number n) xs i h) ∙ s.value
+
+-- digits alone write less than that
+digits_room : (n : ℕ) (xs : List ℕ) → All Digit xs → number n xs + 1 ≤ (n + 1) * 10 ^ length xs
+digits_room n [] h = omega arith
+digits_room n (x ∷ xs) h =
+    let m = n * 10 + (x - 48) in
+    let d : 48 ≤ x = h.0.0 in
+    let e : x ≤ 57 = h.0.1 in
+    let more : number m xs + 1 ≤ (m + 1) * 10 ^ length xs = digits_room m xs h.1 in
+    let less : m + 1 ≤ (n + 1) * 10 = omega arith in
+    let ten : 10 ^ suc (length xs) ≡ 10 * 10 ^ length xs = pow-succ' 10 (length xs) in
+    let same : (n + 1) * 10 ^ suc (length xs) ≡ (n + 1) * 10 * 10 ^ length xs = ap (λ (k : ℕ). (n + 1) * k) ten ∙ sym (mul_assoc (n + 1) 10 (10 ^ length xs)) in
+    omega (arith, more, same, mul-le-mul_right (10 ^ length xs) less)
+
+pub nine_digits : (xs : List ℕ) → All Digit xs → length xs ≤ 9 → number 0 xs < 1000000000
+nine_digits xs h k =
+    let less : 10 ^ length xs ≤ 10 ^ 9 = pow-le-pow_right (omega arith) k in
+    let d : number 0 xs + 1 ≤ (0 + 1) * 10 ^ length xs = digits_room 0 xs h in
+    omega arith

@@ -1,19 +1,11 @@
 -- The first line of a text, and the lines of what follows it. Assumes nothing.
 use Rattle.std.proofs.Common.{◌≡◌, ℕ, suc, ◌+◌, ◌-◌, ◌<◌, ◌≤◌, false, not, eqb, List, [], ◌∷◌, ◌++◌, length, get_or, take, drop, sym, refl, ap, ◌∙◌, inl, inr, ⊎_elim, arith}
 use Rattle.std.specs.List.{prefix_len, AllByRecursion as All}
-use Rattle.std.proofs.lemmas.List.{append_assoc, append-nil, take_at, drop_at, take_all, drop_all, drop_more, length-append, length-drop}
+use Rattle.std.proofs.lemmas.List.{append_assoc, append-nil, take_at, drop_at, take_all, drop_all, drop_more, length-append}
 use Rattle.std.proofs.lemmas.Bool.{cond-true, cond-false, cases_lt}
 use Rattle.std.proofs.lemmas.Bool.Decides.{nat_tests}
 use Rattle.parameter_text.specs.Cuts.{split, chomped, last_line, ended_lines, lines, ended, within_line, line_of, after_line, Starts}
-use Rattle.parameter_text.proofs.CutLaws.{before, split_some, split_front, split_whole}
-
--- what stands at the end of a list, found again by its length
-pub drop_back : {X : Type 0} (k : ℕ) (xs : List X) → drop (length xs - length (drop k xs)) xs ≡ drop k xs
-drop_back k xs =
-    ⊎_elim
-    (λ (h : k < length xs). let same : length xs - length (drop k xs) ≡ k = omega (arith, length-drop k xs) in ap (λ (n : ℕ). drop n xs) same)
-    (λ (h : length xs ≤ k). drop_all (length xs - length (drop k xs)) xs (omega (arith, length-drop k xs)) ∙ sym (drop_all k xs h))
-    (cases_lt k (length xs))
+use Rattle.parameter_text.proofs.CutLaws.{before, split_some, split_front, split_whole, cut_parts, cut_nowhere}
 
 pub chomped_cr : (xs : List ℕ) → 0 < length xs → get_or xs (length xs - 1) 0 ≡ 13 → take (length xs - 1) xs ≡ chomped xs
 chomped_cr [] h e = absurd (omega arith)
@@ -29,21 +21,6 @@ chomped_same (x ∷ y ∷ ys) n =
     let down : suc (suc (length ys)) - 1 ≡ suc (suc (length ys) - 1) = omega arith in
     ap (λ l. x ∷ l) (chomped_same (y ∷ ys) (λ _. (rw down at n) (omega arith)))
 
-pub line_cut : (xs : List ℕ) (n : ℕ) → n ≡ prefix_len within_line xs → n < length xs → chomped (take (n - 0) xs) ≡ line_of xs
-line_cut xs n e h =
-    let z : n - 0 ≡ n = omega arith in
-    rw z (sym (ap (λ (k : ℕ). ended (take k xs) (drop k xs)) (sym e) ∙ ap (ended (take n xs)) (drop_more xs n 0 h)))
-
-pub line_whole : (xs : List ℕ) (n : ℕ) → n ≡ prefix_len within_line xs → length xs ≤ n → xs ≡ line_of xs
-line_whole xs n e h =
-    sym (ap (λ (k : ℕ). ended (take k xs) (drop k xs)) (sym e) ∙ ap (ended (take n xs)) (drop_all n xs h) ∙ take_all n xs h)
-
-pub after_cut : (xs : List ℕ) (n : ℕ) → n ≡ prefix_len within_line xs → drop (n + 1) xs ≡ after_line xs
-after_cut xs n e = ap (λ (k : ℕ). drop (k + 1) xs) e
-
-pub after_whole : (xs : List ℕ) (n : ℕ) → n ≡ prefix_len within_line xs → length xs ≤ n → drop n xs ≡ after_line xs
-after_whole xs n e h = drop_all n xs h ∙ sym (drop_all (n + 1) xs (omega arith)) ∙ after_cut xs n e
-
 ended_more : (l ys : List ℕ) → ended_lines (l ∷ split 10 ys) ≡ chomped l ∷ ended_lines (split 10 ys)
 ended_more l ys = let s = split_some 10 ys in rw s.2 refl
 
@@ -51,24 +28,34 @@ last_some : (l : List ℕ) → 0 < length l → last_line l ≡ l ∷ []
 last_some [] h = absurd (omega arith)
 last_some (x ∷ l) h = refl
 
-lines_cut : (xs : List ℕ) (n : ℕ) → n ≡ prefix_len within_line xs → n < length xs → lines xs ≡ line_of xs ∷ lines (drop (n + 1) xs)
-lines_cut xs n e h =
-    let z : n - 0 ≡ n = omega arith in
-    let k : before 10 xs < length xs = omega arith in
-    let first : chomped (take n xs) ≡ line_of xs = rw z at (line_cut xs n e h) in
-    ap ended_lines (split_front 10 xs k) ∙ ended_more (take (before 10 xs) xs) (drop (before 10 xs + 1) xs) ∙ ap (λ (m : ℕ). chomped (take m xs) ∷ lines (drop (m + 1) xs)) (sym e) ∙ ap (λ (l : List ℕ). l ∷ lines (drop (n + 1) xs)) first
+-- the first line as its cut finds it
+pub first_cut : (xs line rest : List ℕ) → split 10 xs ≡ line ∷ split 10 rest → (chomped line ≡ line_of xs) × (rest ≡ after_line xs) × (lines xs ≡ chomped line ∷ lines rest)
+first_cut xs line rest e =
+    let n = before 10 xs in
+    let p = cut_parts 10 xs line rest e in
+    let back : drop n xs ≡ get_or xs n 0 ∷ drop (n + 1) xs = drop_more xs n 0 p.0 in (
+      ap chomped p.1 ∙ sym (ap (ended (take n xs)) back),
+      p.2,
+      ap ended_lines e ∙ ended_more line rest,
+    )
 
-lines_whole : (xs : List ℕ) (n : ℕ) → n ≡ prefix_len within_line xs → length xs ≤ n → 0 < length xs → lines xs ≡ xs ∷ lines (drop n xs)
-lines_whole xs n e h some =
-    ap ended_lines (split_whole 10 xs (omega arith)) ∙ last_some xs some ∙ ap (λ (l : List ℕ). xs ∷ lines l) (sym (drop_all n xs h))
+-- a text without an end is a line
+pub first_whole : (xs : List ℕ) → 0 < length xs → split 10 xs ≡ xs ∷ [] → (xs ≡ line_of xs) × ([] ≡ after_line xs) × (lines xs ≡ xs ∷ [])
+first_whole xs some e =
+    let n = before 10 xs in
+    let h : length xs ≤ n = cut_nowhere 10 xs xs e in (
+      sym (ap (ended (take n xs)) (drop_all n xs h) ∙ take_all n xs h),
+      sym (drop_all (n + 1) xs (omega arith)),
+      ap ended_lines e ∙ last_some xs some,
+    )
 
 -- a text that is not empty has a first line, and then the lines of what follows it
 pub lines_step : (xs : List ℕ) → 0 < length xs → lines xs ≡ line_of xs ∷ lines (after_line xs)
 lines_step xs some =
     ⊎_elim
-    (λ (h : prefix_len within_line xs < length xs). lines_cut xs (prefix_len within_line xs) refl h)
-    (λ (h : length xs ≤ prefix_len within_line xs). lines_whole xs (prefix_len within_line xs) refl h some ∙ ap (λ (l : List ℕ). l ∷ lines (drop (prefix_len within_line xs) xs)) (line_whole xs (prefix_len within_line xs) refl h) ∙ ap (λ (l : List ℕ). line_of xs ∷ lines l) (after_whole xs (prefix_len within_line xs) refl h))
-    (cases_lt (prefix_len within_line xs) (length xs))
+    (λ (h : before 10 xs < length xs). let c = first_cut xs _ (after_line xs) (split_front 10 xs h) in c.2 ∙ ap (λ (l : List ℕ). l ∷ lines (after_line xs)) c.0)
+    (λ (h : length xs ≤ before 10 xs). let c = first_whole xs some (split_whole 10 xs h) in c.2 ∙ ap (λ (l : List ℕ). l ∷ []) c.0 ∙ ap (λ (l : List ℕ). line_of xs ∷ lines l) c.1)
+    (cases_lt (before 10 xs) (length xs))
 
 -- a line without CR and LF, and what follows it
 

@@ -5,3 +5,4 @@ pub mod Decimals
 pub mod Integers
 pub mod Dates
 pub mod Left
+pub mod Signs

@@ -3,31 +3,21 @@ ghost use Rattle.std.specs.Prelude.{◌≡◌, ℕ, ◌+◌, ◌<◌, ◌≤◌,
 ghost use Rattle.std.specs.Option.{option_map};
 ghost use Rattle.std.specs.List.{prefix_len};
 ghost use Rattle.std.specs.Iterator.{YieldsFirstRef, item_count, MakesProgress};
-ghost use Rattle.parameter_text.specs.Cuts.{split, parts_of, cells, all_empty, chomped, line_of, after_line, lines};
+ghost use Rattle.parameter_text.specs.Cuts.{split, parts_of, cells, empty, all_empty, chomped, line_of, after_line, lines};
 ghost use Rattle.parameter_text.specs.Left.{cells_left, lines_left, text_left};
-
-// How many bytes stand before the first `b`.
-fn run_to(bytes: &[u8], b: u8) -> usize
-    ensures { result ≡ prefix_len (λ x. not (x == b)) bytes.now }
-{
-    for (i, x) in bytes.iter().enumerate() {
-        if *x == b {
-            return i;
-        }
-    }
-    bytes.len()
-}
 
 // What stands before the first `b` and what follows it, or none where there is no `b`.
 pub(crate) fn cut_at(bytes: &[u8], b: u8) -> Option<(&[u8], &[u8])>
     ensures { MatchOption result (split b bytes.now ≡ bytes.now ∷ []) (λ p. split b bytes.now ≡ p.0.now ∷ split b p.1.now) }
 {
-    let n = run_to(bytes, b);
-    if n < bytes.len() {
-        Some((&bytes[0..n], &bytes[n + 1..]))
-    } else {
-        None
-    }
+    let n = bytes.iter().position(|x| *x == b)?;
+    Some((&bytes[..n], &bytes[n + 1..]))
+}
+
+fn is_empty(cell: &[u8]) -> bool
+    ensures { result ≡ empty cell.now }
+{
+    cell.is_empty()
 }
 
 // The cells of a line that are still to come: none once the last was given.
@@ -56,23 +46,15 @@ impl<'a> Cells<'a> {
     pub fn rest(&self) -> Option<&'a [u8]>
         ensures { cells_left self.now ≡ parts_of 44 (option_map (λ x. x.now) result) }
     {
-        match self.rest {
-            Some(text) => Some(text),
-            None => None,
-        }
+        let Cells { rest } = *self;
+        rest
     }
 
     // Are all cells that are still to come empty?
-    pub fn are_empty(self) -> bool
+    pub fn are_empty(mut self) -> bool
         ensures { result ≡ all_empty (cells_left self.entry) }
     {
-        let mut left = self;
-        while let Some(cell) = left.next_cell() {
-            if !cell.is_empty() {
-                return false;
-            }
-        }
-        true
+        self.all(is_empty)
     }
 }
 
@@ -116,11 +98,9 @@ fn first_line(text: &[u8]) -> Option<(&[u8], &[u8])>
     if text.is_empty() {
         return None;
     }
-    let n = run_to(text, b'\n');
-    if n < text.len() {
-        Some((chomp(&text[0..n]), &text[n + 1..]))
-    } else {
-        Some((text, &text[n..]))
+    match cut_at(text, b'\n') {
+        Some((line, rest)) => Some((chomp(line), rest)),
+        None => Some((text, &[])),
     }
 }
 
@@ -142,8 +122,8 @@ impl<'a> Lines<'a> {
     pub fn rest(&self) -> &'a [u8]
         ensures { result.now ≡ text_left self.now }
     {
-        let text = self.rest;
-        text
+        let Lines { rest } = *self;
+        rest
     }
 
     // The next line without its end, or none at the end of the text; from then on there is none.
@@ -176,23 +156,13 @@ impl<'a> Iterator for Lines<'a> {
     }
 }
 
-fn front_of(text: &[u8]) -> (&[u8], usize)
-    ensures line { result.0.now ≡ line_of text.now }
-    ensures after { drop result.1 text.now ≡ after_line text.now }
-    ensures within { result.1 ≤ length text.now }
-{
-    let mut lines = Lines::new(text);
-    match lines.next_line() {
-        Some(line) => (line, text.len() - lines.rest().len()),
-        None => (text, 0),
-    }
-}
-
 // The first line of a text without its end, and where the next one starts. An empty text is an empty line.
 pub fn front_line(text: &[u8]) -> (&[u8], usize)
     ensures line { result.0.now ≡ line_of text.now }
     ensures after { drop result.1 text.now ≡ after_line text.now }
     ensures within { result.1 ≤ length text.now }
 {
-    front_of(text)
+    let mut lines = Lines::new(text);
+    let line = lines.next().unwrap_or(text);
+    (line, text.len() - lines.rest().len())
 }

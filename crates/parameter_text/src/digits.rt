@@ -1,58 +1,32 @@
 // Digits, and the number that they write.
-ghost use Rattle.std.specs.Prelude.{◌≡◌, ℕ, ◌+◌, ◌-◌, ◌*◌, ◌^◌, ◌≤◌, length, nat_eq};
-ghost use Rattle.std.specs.List.{prefix_len, AllByRecursion};
-ghost use Rattle.parameter_text.specs.Digits.{Digit, digit, every, number};
+ghost use Rattle.std.specs.Prelude.{◌≡◌, ◌+◌, ◌*◌, ◌^◌, ◌≤◌, length, take, drop};
+ghost use Rattle.std.specs.List.{prefix_len};
+ghost use Rattle.parameter_text.specs.Digits.{digit, every, number};
 
-fn is_digit(b: u8) -> bool
-    ensures { result ≡ digit b }
+// The digits in front, and what follows them.
+pub(crate) fn leading_digits(bytes: &[u8]) -> (&[u8], &[u8])
+    ensures digits { result.0.now ≡ take (prefix_len digit bytes.now) bytes.now }
+    ensures rest { result.1.now ≡ drop (prefix_len digit bytes.now) bytes.now }
 {
-    b >= b'0' && b <= b'9'
-}
-
-// How many digits stand in front.
-pub(crate) fn leading_digits(bytes: &[u8]) -> usize
-    ensures { result ≡ prefix_len digit bytes.now }
-{
-    for (i, b) in bytes.iter().enumerate() {
-        if !is_digit(*b) {
-            return i;
-        }
-    }
-    bytes.len()
-}
-
-pub(crate) fn all_zeros(bytes: &[u8]) -> bool
-    ensures { result ≡ every (nat_eq 48) bytes.now }
-{
-    for b in bytes {
-        if *b != b'0' {
-            return false;
-        }
-    }
-    true
+    let n = bytes.iter().take_while(|b| b.is_ascii_digit()).count();
+    bytes.split_at(n)
 }
 
 pub(crate) fn all_digits(bytes: &[u8]) -> bool
     ensures { result ≡ every digit bytes.now }
 {
-    for b in bytes {
-        if !is_digit(*b) {
-            return false;
-        }
-    }
-    true
+    bytes.iter().all(|b| b.is_ascii_digit())
 }
 
-// The number that at most ten digits write.
+// The number that at most ten digits write. A byte that is no digit counts too, as much as it is above the digit 0.
 pub(crate) fn number_of(bytes: &[u8]) -> u64
-    requires digits { AllByRecursion Digit bytes.now }
-    requires few { length bytes.now ≤ 10 }
+    requires { length bytes.now ≤ 10 }
     ensures value { result ≡ number 0 bytes.now }
-    ensures bound { (result + 1) * 10 ^ (10 - length bytes.now) ≤ 10000000000 }
+    ensures bound { result + 23 ≤ 23 * 10 ^ length bytes.now }
 {
-    let mut n: u64 = 0;
+    let mut number = 0;
     for b in bytes {
-        n = n * 10 + (*b - b'0') as u64;
+        number = number * 10 + u64::from(b.saturating_sub(b'0'));
     }
-    n
+    number
 }

@@ -7,9 +7,10 @@ mod decimals;
 mod digits;
 mod integers;
 mod questions;
+mod signs;
 mod terms;
 
 pub use cuts::{Cells, Lines, front_line};
 pub use dates::date;
 pub use integers::stock;
-pub use terms::{Date, DecimalRule, IntegerRule, Places, Question};
+pub use terms::{Date, DecimalRule, IntegerRule, Places, Question, Sign};

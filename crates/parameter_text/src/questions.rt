@@ -25,10 +25,6 @@ impl Question {
     pub fn sooner(self, other: Question) -> Question
         ensures { result ≡ sooner_of self other }
     {
-        if self.number() <= other.number() {
-            self
-        } else {
-            other
-        }
+        self.min(other)
     }
 }

@@ -1,18 +1,19 @@
-use Rattle.std.proofs.Common.{arith, rules}
-use Rattle.parameter_rows.proofs.UsualRows.{commas_none, commas_more, ends_lf, ends_cr, ends_text}
+use Rattle.std.proofs.Common.{ℕ, ◌-◌, eqb, List, length, take, drop, ◌∙◌, rules, tests}
+use Rattle.std.proofs.lemmas.List.{take_rest}
+use Rattle.std.proofs.lemmas.Iterator.{YieldsList-from_slice}
+use Rattle.std.proofs.lemmas.Iterator.Search.{YieldsList-from_take_while}
+use Rattle.std.proofs.lemmas.Iterator.Consumers.{count_from_yields_List}
+use Rattle.std.proofs.lemmas.List.Folds.{length-prefix_len}
+use Rattle.parameter_rows.proofs.UsualRows.{line_ended}
 use Rattle.parameter_rows.proofs.usual.line_end.Goals as goal
 
-pub loop-at-init : goal.loop-at-init
-loop-at-init c = commas_none c.args.text.now c.args.from c.requires
-
-pub loop-at-preserved : goal.loop-at-preserved
-loop-at-preserved c = commas_more c.args.text.now c.args.from c.loop-at.at c.loop-at.invariant (search rules) (search rules)
-
-pub returns-then-at-text : goal.returns-then-at-text
-returns-then-at-text c = record { ends = ends_text c.args.text.now c.args.from c.loop-at.at c.loop-at.invariant (omega arith); within = c.loop-at.invariant.1 }
-
-pub returns-then-text-at-eq10 : goal.returns-then-text-at-eq10
-returns-then-text-at-eq10 c = record { ends = ends_lf c.args.text.now c.args.from c.loop-at.at c.loop-at.invariant (omega arith) (search rules); within = omega arith }
-
-pub returns-then-text-at-eq10-2 : goal.returns-then-text-at-eq10-2
-returns-then-text-at-eq10-2 c = record { ends = ends_cr c.args.text.now c.args.from c.loop-at.at c.loop-at.invariant (omega arith) (search rules) (search rules); within = omega arith }
+pub returns : goal.returns
+returns c =
+    let xs = c.args.text.now in
+    let from = c.args.from in
+    let k = c.count-commas.result in
+    let line = take (length xs - from) (drop from xs) in
+    let last = take (length line - k) (drop k line) in
+    let commas = count_from_yields_List c.take_while.result _ c.count-commas.ensures.ran (YieldsList-from_take_while _ (λ x. eqb x 44) (YieldsList-from_slice line cc) c.take_while.ensures.closure c.take_while.ensures.done (λ x b q k. search (rules, tests))) ∙ length-prefix_len (λ x. eqb x 44) line in
+    let said = line_ended xs line last from k c.in_ok-length.length c.requires (take_rest xs from) (take_rest line k) commas c.in_ok-length.ensures.within c.in_ok-length.ensures.ends in
+    record { ends = said.0; within = said.1 }

@@ -1,13 +1,20 @@
-use Rattle.std.proofs.Common.{sym, arith}
+use Rattle.std.proofs.Common.{ℕ, take, drop, ap, ◌∙◌, rules, tests, arith}
+use Rattle.std.proofs.lemmas.Iterator.{YieldsList-from_slice}
+use Rattle.std.proofs.lemmas.Iterator.Search.{YieldsList-from_take_while}
+use Rattle.std.proofs.lemmas.Iterator.Consumers.{count_from_yields_List}
+use Rattle.std.proofs.lemmas.List.Folds.{length-prefix_len}
+use Rattle.std.proofs.lemmas.List.Sums.{prefix_len-le-length}
 use Rattle.parameter_text.specs.Digits.{digit}
-use Rattle.std.proofs.lemmas.List.Sums.{prefix_len-drop_yes, prefix_len-drop_no, prefix_len-drop_all}
 use Rattle.parameter_text.proofs.digits.leading_digits.Goals as goal
 
-pub returns-then-not-is_digit : goal.returns-then-not-is_digit
-returns-then-not-is_digit c = let e = prefix_len-drop_no digit c.args.bytes.now c.loop-i.i 0 (omega arith) (sym c.if-not-is_digit.ensures) in omega (arith, e, c.loop-i.invariant)
-
-pub loop-i-preserved : goal.loop-i-preserved
-loop-i-preserved c = let e = prefix_len-drop_yes digit c.args.bytes.now c.loop-i.i 0 (omega arith) (sym c.if-not-is_digit.ensures) in omega (arith, e, c.loop-i.invariant)
+pub split_at-requires : goal.split_at-requires
+split_at-requires c =
+    let bytes = c.args.bytes.now in
+    let n = count_from_yields_List c.take_while.result _ c.count-n.ensures.ran (YieldsList-from_take_while _ digit (YieldsList-from_slice bytes cc) c.take_while.ensures.closure c.take_while.ensures.done (λ x b q k. search (rules, tests))) ∙ length-prefix_len digit bytes in
+    omega (arith, n, prefix_len-le-length digit bytes)
 
 pub returns : goal.returns
-returns c = let e = prefix_len-drop_all digit c.args.bytes.now c.loop-i.i (omega arith) in omega (arith, e, c.loop-i.invariant)
+returns c =
+    let bytes = c.args.bytes.now in
+    let n = count_from_yields_List c.take_while.result _ c.count-n.ensures.ran (YieldsList-from_take_while _ digit (YieldsList-from_slice bytes cc) c.take_while.ensures.closure c.take_while.ensures.done (λ x b q k. search (rules, tests))) ∙ length-prefix_len digit bytes in
+    record { digits = c.split_at.ensures.front ∙ ap (λ (k : ℕ). take k bytes) n; rest = c.split_at.ensures.back ∙ ap (λ (k : ℕ). drop k bytes) n }

@@ -1,9 +1,8 @@
-use Rattle.std.proofs.Common.{rules}
 use Rattle.parameter_text.proofs.IntegerLaws.{stocks_pass}
 use Rattle.parameter_text.proofs.integers.stock_number.Goals as goal
 
-pub returns-then-starts_with_zero : goal.returns-then-starts_with_zero
-returns-then-starts_with_zero c = record { number = search rules; law = stocks_pass }
+pub returns-in-48-clause-law : goal.returns-in-48-clause-law
+returns-in-48-clause-law c = stocks_pass
 
-pub returns-else-starts_with_zero : goal.returns-else-starts_with_zero
-returns-else-starts_with_zero c = record { number = search rules; law = stocks_pass }
+pub returns-in_default-clause-law : goal.returns-in_default-clause-law
+returns-in_default-clause-law c = stocks_pass

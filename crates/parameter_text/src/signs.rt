@@ -1,0 +1,29 @@
+// Signs: a minus in front of a number, or none.
+ghost use Rattle.std.specs.Prelude.{◌≡◌, ◌<◌};
+ghost use Rattle.parameter_text.specs.Decimals.{signed, minus_in, unsigned_in};
+ghost use Rattle.parameter_text.specs.Signs.{is_minus};
+
+use super::terms::Sign;
+
+impl Sign {
+    // The sign in front of a cell, and what follows it.
+    pub fn of(cell: &[u8]) -> (Sign, &[u8])
+        ensures minus { is_minus result.0 ≡ minus_in cell.now }
+        ensures rest { result.1.now ≡ unsigned_in cell.now }
+    {
+        match cell {
+            [b'-', rest @ ..] => (Sign::Minus, rest),
+            _ => (Sign::Plus, cell),
+        }
+    }
+
+    // A size with this sign. A size of more than 63 bits becomes the greatest or the least number.
+    pub fn with(self, size: u64) -> i64
+        ensures { size < 9223372036854775808 → result ≡ signed (is_minus self) size }
+    {
+        match self {
+            Sign::Plus => 0i64.saturating_add_unsigned(size),
+            Sign::Minus => 0i64.saturating_sub_unsigned(size),
+        }
+    }
+}

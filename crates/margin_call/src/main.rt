@@ -80,8 +80,9 @@ fn main(rt: HostRuntime) -> ExitCode {
 // Does what the arguments ask for.
 fn run(program: &Program<'_>) -> Result<(), NotDone> {
     let words = program.arguments()?;
-    let request = Request::from_words(words.as_slice())
-        .map_err(|error| program.not_done(format_args!("{error}\n{USAGE}")))?;
+    let request = Request::from_words(words.as_slice()).map_err(|error| program.not_done(
+        format_args!("{error}\n{USAGE}"),
+    ))?;
     match request {
         Request::Help => program.print(format_args!("{USAGE}\n\n{HELP}")),
         Request::Call(wanted) => margin_call(program, &wanted),
@@ -89,7 +90,7 @@ fn run(program: &Program<'_>) -> Result<(), NotDone> {
 }
 
 // First the form of the settings and of every journal, then the source, and then the day.
-fn margin_call(program: &Program<'_>, wanted: &MarginCall<'_>) -> Result<(), NotDone> {
+fn margin_call<'a>(program: &'a Program<'a>, wanted: &'a MarginCall<'a>) -> Result<(), NotDone> {
     let settings = settings(program, wanted.settings)?;
     let journals = journals(program, wanted.journals)?;
     let day = Day {
@@ -104,8 +105,9 @@ fn margin_call(program: &Program<'_>, wanted: &MarginCall<'_>) -> Result<(), Not
             day.over_file(path, bytes.as_slice())
         }
         Source::Rate(rate) => {
-            let source =
-                FallbackSource::new(rate).map_err(|refusal| day.refused(Refused::Rate(refusal)))?;
+            let source = FallbackSource::new(rate).map_err(|refusal| day.refused(Refused::Rate(
+                refusal,
+            )))?;
             day.over(&source)
         }
     }
@@ -136,9 +138,7 @@ fn journals(program: &Program<'_>, names: Journals<'_>) -> Result<Vec<Vec<u8>>, 
 fn journal(program: &Program<'_>, path: &str) -> Result<Vec<u8>, NotDone> {
     let bytes = program.front_of(path, u64::MAX)?;
     check_journal(bytes.as_slice()).map_err(|FormFault { line }| {
-        program.not_done(format_args!(
-            "{path}, line {line}: this is neither a post nor a cancel"
-        ))
+        program.not_done(format_args!("{path}, line {line}: this is neither a post nor a cancel"))
     })?;
     Ok(bytes)
 }
@@ -159,8 +159,9 @@ struct Day<'a> {
 impl Day<'_> {
     // The day over a parameter file, where that passes its check.
     fn over_file(&self, path: &str, bytes: &[u8]) -> Result<(), NotDone> {
-        let memory = Memory::for_file(bytes.len(), self.program.rt.alloc())
-            .map_err(|_| self.program.not_done(format_args!("{path}: not enough memory")))?;
+        let memory = Memory::for_file(bytes.len(), self.program.rt.alloc()).map_err(|_| self
+            .program
+            .not_done(format_args!("{path}: not enough memory")))?;
         let mut file = Received::new(bytes, memory);
         file.check().map_err(|fault| {
             self.program
@@ -172,10 +173,12 @@ impl Day<'_> {
     // Opens the account, applies the journals, closes it and assesses it.
     fn over<S: ReturnSource>(&self, source: &S) -> Result<(), NotDone> {
         let places = self.wanted.places.min(PLACES_TOO_MANY);
-        let mut table = vec![in self.program.rt.alloc(); Place::Free; places]
-            .map_err(|_| no_memory(self.program))?;
-        check_open(table.as_slice(), &self.settings)
-            .map_err(|refusal| self.refused(Refused::Opening(refusal)))?;
+        let mut table = vec![in self.program.rt.alloc(); Place::Free; places].map_err(|_| no_memory(
+            self.program,
+        ))?;
+        check_open(table.as_slice(), &self.settings).map_err(|refusal| self.refused(
+            Refused::Opening(refusal),
+        ))?;
         let mut account = open(table.as_mut_slice(), self.settings);
         let counts = self.apply(&mut account)?;
         self.assess(source, &account.close(), &counts)
@@ -231,9 +234,11 @@ impl Day<'_> {
         account: &ClosedAccount<'_>,
         counts: &AnswerCounts,
     ) -> Result<(), NotDone> {
-        let mut sheets =
-            Sheets::for_source(source, self.wanted.holdings, self.program.rt.alloc())
-                .map_err(|_| no_memory(self.program))?;
+        let mut sheets = Sheets::for_source(
+            source,
+            self.wanted.holdings,
+            self.program.rt.alloc(),
+        ).map_err(|_| no_memory(self.program))?;
         let answer = account.assess(
             source,
             sheets.totals.as_mut_slice(),

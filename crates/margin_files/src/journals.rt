@@ -4,7 +4,7 @@ ghost use Rattle.std.specs.Iterator.{YieldsFirst, item_count};
 ghost use Rattle.parameter_text.specs.Cuts.{lines as lines_of};
 ghost use Rattle.parameter_text.specs.Left.{cells_left};
 ghost use Rattle.margin_files.specs.Wholes.{first_whole};
-ghost use Rattle.margin_files.specs.Journals.{posting_in, cancelled_in, call_of_line, calls_of, calls_left, journal_check};
+ghost use Rattle.margin_files.specs.Journals.{posting_of, posting_in, cancelled_in, call_of_line, calls_of, calls_left, journal_check};
 
 use super::numbers::{in_u32, whole_number};
 use super::terms::{FormFault, JournalCall};
@@ -18,6 +18,21 @@ fn next_whole(cells: &mut Cells<'_>) -> Option<i64>
     whole_number(cells.next()?)
 }
 
+// The entry that six whole numbers make.
+fn entry(numbers: [i64; 6]) -> Posting
+    ensures { Some result ≡ posting_of numbers }
+{
+    let [number, kind, stock, quantity, contract_value, market_value] = numbers;
+    Posting {
+        number: in_u32(number),
+        kind: in_u32(kind),
+        stock: in_u32(stock),
+        quantity,
+        contract_value,
+        market_value,
+    }
+}
+
 // The entry that the cells behind `post` write.
 fn posting(cells: Cells<'_>) -> Option<Posting>
     ensures { result ≡ posting_in (cells_left cells.entry) }
@@ -29,14 +44,8 @@ fn posting(cells: Cells<'_>) -> Option<Posting>
     let quantity = next_whole(&mut left)?;
     let contract_value = next_whole(&mut left)?;
     let market_value = next_whole(&mut left)?;
-    left.next().is_none().then_some(Posting {
-        number: in_u32(number),
-        kind: in_u32(kind),
-        stock: in_u32(stock),
-        quantity,
-        contract_value,
-        market_value,
-    })
+    let numbers = [number, kind, stock, quantity, contract_value, market_value];
+    left.next().is_none().then_some(entry(numbers))
 }
 
 // The number that the cells behind `cancel` write.

@@ -1,9 +1,8 @@
 // The numbers of settings and journals: whole numbers, and decimals in the form of the parameter file's.
-ghost use Rattle.std.specs.Prelude.{◌≡◌, ◌+◌, ◌^◌, ◌≤◌, ◌≤ℤ◌, pos, neg_ℤ, IfSome, option_map};
-ghost use Rattle.parameter_text.specs.Decimals.{signed, minus_in, unsigned_in};
+ghost use Rattle.std.specs.Prelude.{◌≡◌, ◌+◌, ◌*◌, ◌^◌, ◌≤◌, min, IfSome};
 ghost use Rattle.margin_files.specs.Numbers.{digit_value, whole_size, whole_number as whole_number_of, or_greatest, hundreds as hundreds_of, four_places as four_places_of, two_places as two_places_of, rate_of, count_of};
 
-use parameter_text::{DecimalRule, Places};
+use parameter_text::{DecimalRule, Places, Sign};
 
 // The most digits of a whole number: each value fits into 64 bits.
 const MOST_DIGITS: usize = 18;
@@ -40,33 +39,13 @@ fn whole_size(digits: &[u8]) -> Option<u64>
     Some(size)
 }
 
-// Is there a minus, and what follows it.
-fn sign(cell: &[u8]) -> (bool, &[u8])
-    ensures minus { result.0 ≡ minus_in cell.now }
-    ensures rest { result.1.now ≡ unsigned_in cell.now }
-{
-    match cell {
-        [b'-', rest @ ..] => (true, rest),
-        _ => (false, cell),
-    }
-}
-
-fn with_sign(minus: bool, size: u64) -> i64
-    requires { size + 1 ≤ 10 ^ 18 }
-    ensures { result ≡ signed minus size }
-{
-    let value = size as i64;
-    if minus { -value } else { value }
-}
-
 // The whole number that a cell writes: an optional minus and one to eighteen digits.
 #[tactic(auto, unfolding(crate::specs::Numbers::whole_number))]
 pub(crate) fn whole_number(cell: &[u8]) -> Option<i64>
     ensures { result ≡ whole_number_of cell.now }
 {
-    let (minus, digits) = sign(cell);
-    let size = whole_size(digits)?;
-    Some(with_sign(minus, size))
+    let (sign, digits) = Sign::of(cell);
+    Some(sign.with(whole_size(digits)?))
 }
 
 // The decimal of at most four places that a cell writes, in ten-thousandths.
@@ -114,6 +93,13 @@ pub fn rate(text: &[u8]) -> Option<u32>
     Some(in_u32(four_places(text)?))
 }
 
+// A number with one digit more behind it, or the greatest number.
+fn with_digit(number: usize, digit: u64) -> usize
+    ensures { result ≡ min (number * 10 + digit) 18446744073709551615 }
+{
+    number.saturating_mul(10).saturating_add(digit as usize)
+}
+
 // The number that a text of digits writes, however many they are; one that does not fit becomes the greatest that does.
 pub fn count(text: &[u8]) -> Option<usize>
     ensures { result ≡ count_of text.now }
@@ -123,9 +109,7 @@ pub fn count(text: &[u8]) -> Option<usize>
     }
     let mut count: usize = 0;
     for byte in text {
-        count = count
-            .saturating_mul(10)
-            .saturating_add(digit_value(*byte)? as usize);
+        count = with_digit(count, digit_value(*byte)?);
     }
     Some(count)
 }

@@ -1,7 +1,6 @@
-use Rattle.std.proofs.Common.{◌≡◌, w64, refl, sym, ◌∙◌, arith, rules}
+use Rattle.std.proofs.Common.{◌≡◌, [], ◌∷◌, w64, to_z, of_z, refl, sym, ◌∙◌, rules}
 use mir.Val.{SFits}
 use Rattle.std.proofs.lemmas.Int.{to_z-of_z}
-use Rattle.margin_files.specs.Numbers.{in_u32}
 use Rattle.margin_files.specs.Journals.{posting_of, posting_in}
 use Rattle.margin_files.proofs.WholeSteps.{wholes_more, wholes_none, wholes_ended}
 use Rattle.margin_files.proofs.journals.posting.Goals as goal
@@ -39,7 +38,5 @@ returns c =
     let fits_quantity : SFits w64 c.in_ok-quantity.quantity = search rules in
     let fits_contract_value : SFits w64 c.in_ok-contract_value.contract_value = search rules in
     let fits_market_value : SFits w64 c.in_ok-market_value.market_value = search rules in
-    let number : c.in_u32.result ≡ in_u32 c.in_ok-number.number = grind (arith, to_z-of_z, c.in_u32.ensures) in
-    let kind : c.in_u32-2.result ≡ in_u32 c.in_ok-kind.kind = grind (arith, to_z-of_z, c.in_u32-2.ensures) in
-    let stock : c.in_u32-3.result ≡ in_u32 c.in_ok-stock.stock = grind (arith, to_z-of_z, c.in_u32-3.ensures) in
-    c.then_some.ensures ∙ sym (wholes_more posting_of _ _ _ c.in_ok-number.ensures ∙ wholes_more _ _ _ _ c.in_ok-kind.ensures ∙ wholes_more _ _ _ _ c.in_ok-stock.ensures ∙ wholes_more _ _ _ _ c.in_ok-quantity.ensures ∙ wholes_more _ _ _ _ c.in_ok-contract_value.ensures ∙ wholes_more _ _ _ _ c.in_ok-market_value.ensures ∙ wholes_ended _ (rw (number, kind, stock) (simp to_z-of_z refl)) (λ z zs. refl) _ _ _ _ c.is_none.ensures c.next.ensures.steps)
+    let same : posting_of (c.in_ok-number.number ∷ c.in_ok-kind.kind ∷ c.in_ok-stock.stock ∷ c.in_ok-quantity.quantity ∷ c.in_ok-contract_value.contract_value ∷ c.in_ok-market_value.market_value ∷ []) ≡ posting_of (to_z w64 (of_z w64 c.in_ok-number.number) ∷ to_z w64 (of_z w64 c.in_ok-kind.kind) ∷ to_z w64 (of_z w64 c.in_ok-stock.stock) ∷ to_z w64 (of_z w64 c.in_ok-quantity.quantity) ∷ to_z w64 (of_z w64 c.in_ok-contract_value.contract_value) ∷ to_z w64 (of_z w64 c.in_ok-market_value.market_value) ∷ []) = simp to_z-of_z refl in
+    c.then_some.ensures ∙ sym (wholes_more posting_of _ _ _ c.in_ok-number.ensures ∙ wholes_more _ _ _ _ c.in_ok-kind.ensures ∙ wholes_more _ _ _ _ c.in_ok-stock.ensures ∙ wholes_more _ _ _ _ c.in_ok-quantity.ensures ∙ wholes_more _ _ _ _ c.in_ok-contract_value.ensures ∙ wholes_more _ _ _ _ c.in_ok-market_value.ensures ∙ wholes_ended _ (same ∙ sym c.entry.ensures) (λ z zs. refl) _ _ _ _ c.is_none.ensures c.next.ensures.steps)

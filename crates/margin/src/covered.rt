@@ -1,11 +1,11 @@
 // Which held instruments a return source tells nothing of.
-ghost use Rattle.std.specs.Prelude.{◌≡◌, true, not, ◌&&◌};
-ghost use Rattle.ledger.specs.Table.{sound};
+ghost use Rattle.std.specs.Prelude.{◌≡◌, not, ◌&&◌};
 ghost use Rattle.margin_rules.specs.Positions.{all_stocks, held_in, any_place};
 ghost use Rattle.margin_rules.specs.Answers.{is_covered, first_of, uncovered_of};
 ghost use Rattle.margin.specs.Visits.{stock_in};
 ghost use Rattle.margin.specs.Lowest.{lower_of, lower_with};
 
+use crate::account::Account;
 use crate::gross::KINDS;
 use crate::visits::stock_of;
 use ledger::{Instrument, Kind, Place};
@@ -53,27 +53,27 @@ fn lower_with<S: ReturnSource>(
     }
 }
 
-// The lowest stock of a kind that is held and not covered.
-fn lowest_uncovered<S: ReturnSource>(slots: &[Place], source: &S, kind: Kind) -> Option<u32>
-    requires { sound slots.now ≡ true }
-    ensures { result ≡ first_of (λ x. any_place (held_in kind x) slots.now && not (is_covered (S.meaning source.now) kind x)) all_stocks }
-{
-    let mut lowest = None;
-    for place in slots {
-        lowest = lower_with(source, kind, place, lowest);
-    }
-    lowest
-}
-
-// The instrument of the lowest kind, then of the lowest stock, that is held and not covered.
-pub(crate) fn first_uncovered<S: ReturnSource>(slots: &[Place], source: &S) -> Option<Instrument>
-    requires { sound slots.now ≡ true }
-    ensures { result ≡ uncovered_of (S.meaning source.now) all_stocks (λ k x. any_place (held_in k x) slots.now) }
-{
-    for kind in KINDS {
-        if let Some(stock) = lowest_uncovered(slots, source, kind) {
-            return Some(Instrument { kind, stock });
+impl Account<'_> {
+    // The lowest stock of a kind that is held and not covered.
+    fn lowest_uncovered<S: ReturnSource>(&self, source: &S, kind: Kind) -> Option<u32>
+        ensures { result ≡ first_of (λ x. any_place (held_in kind x) self.now.places.now && not (is_covered (S.meaning source.now) kind x)) all_stocks }
+    {
+        let mut lowest = None;
+        for place in self.places {
+            lowest = lower_with(source, kind, place, lowest);
         }
+        lowest
     }
-    None
+
+    // The instrument of the lowest kind, then of the lowest stock, that is held and not covered.
+    pub(crate) fn first_uncovered<S: ReturnSource>(&self, source: &S) -> Option<Instrument>
+        ensures { result ≡ uncovered_of (S.meaning source.now) all_stocks (λ k x. any_place (held_in k x) self.now.places.now) }
+    {
+        for kind in KINDS {
+            if let Some(stock) = self.lowest_uncovered(source, kind) {
+                return Some(Instrument { kind, stock });
+            }
+        }
+        None
+    }
 }

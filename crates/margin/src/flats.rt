@@ -1,15 +1,15 @@
 // Flat-rate margin: the flat stocks of one rate are set off against one another.
-ghost use Rattle.std.specs.Prelude.{◌≡◌, ℕ, ◌+◌, ◌*◌, ◌<◌, ◌≤◌, true, length, drop, pos, ◌*ℤ◌, slice_index_or, unsigned_abs};
-ghost use Rattle.ledger.specs.Table.{sound};
+ghost use Rattle.std.specs.Prelude.{◌≡◌, ◌+◌, ◌*◌, ◌<◌, ◌≤◌, length, drop, pos, ◌*ℤ◌, slice_index_or, unsigned_abs};
 ghost use Rattle.margin_rules.specs.Positions.{all_stocks};
 ghost use Rattle.margin_rules.specs.Charges.{all_rates, flat_of, flat_margin};
 ghost use Rattle.margin.specs.Groups.{stock_market};
 ghost use Rattle.margin.specs.Visits.{rate_in, any_key, last_key};
 
+use crate::account::Assessable;
 use crate::figures::round_off;
-use crate::sides::{Part, is_flat, side};
+use crate::sides::{Part, is_flat};
 use crate::visits::{is_key, stock_of};
-use ledger::{Kind, Place, Settings};
+use ledger::{Kind, Place};
 use return_source::ReturnSource;
 
 // The rate of a live entry's stock, where it stands in the flat tier.
@@ -60,36 +60,30 @@ fn charge(rate: u32, multiplier: u32, side: i64) -> i128
     i128::from(u64::from(rate) * u64::from(multiplier)) * i128::from(side)
 }
 
-// What all sub-categories cost, over 10^6.
-fn flat_sum<S: ReturnSource>(slots: &[Place], source: &S, settings: &Settings) -> i128
-    requires few { length slots.now ≤ 4096 }
-    requires sound { sound slots.now ≡ true }
-    requires small { (x : ℕ) → unsigned_abs (stock_market slots.now x) ≤ 20000000000 }
-    requires multiplier { settings.now.multiplier ≤ 400 }
-    ensures value { result ≡ flat_of (S.meaning source.now) settings.now all_stocks all_rates (stock_market slots.now) }
-    ensures bound { unsigned_abs result ≤ 1342177280000000000000000 }
-{
-    let multiplier = settings.multiplier;
-    let mut sum: i128 = 0;
-    for i in 0..slots.len() {
-        if let Some(rate) = last_rate(slots, i, source) {
-            sum += charge(rate, multiplier, side(slots, source, Part::FlatAt(rate)));
-        }
-    }
-    sum
-}
-
 // The unit of rate times multiplier.
 const CHARGE_UNITS: u64 = 1_000_000;
 
-// Flat-rate margin, in whole dollars.
-pub(crate) fn flat_margin<S: ReturnSource>(slots: &[Place], source: &S, settings: &Settings) -> i64
-    requires few { length slots.now ≤ 4096 }
-    requires sound { sound slots.now ≡ true }
-    requires small { (x : ℕ) → unsigned_abs (stock_market slots.now x) ≤ 20000000000 }
-    requires multiplier { settings.now.multiplier ≤ 400 }
-    ensures value { result ≡ flat_margin (S.meaning source.now) settings.now all_stocks all_rates (stock_market slots.now) }
-    ensures bound { unsigned_abs result ≤ 1342177280000000000 }
-{
-    round_off(flat_sum(slots, source, settings), CHARGE_UNITS) as i64
+impl<S: ReturnSource> Assessable<'_, S> {
+    // What all sub-categories cost, over 10^6.
+    fn flat_sum(&self) -> i128
+        ensures value { result ≡ flat_of (S.meaning self.now.source.now) self.now.account.settings.now all_stocks all_rates (stock_market self.now.account.places.now) }
+        ensures bound { unsigned_abs result ≤ 1342177280000000000000000 }
+    {
+        let multiplier = self.account.settings.multiplier;
+        let mut sum: i128 = 0;
+        for i in 0..self.account.places.len() {
+            if let Some(rate) = last_rate(self.account.places, i, self.source) {
+                sum += charge(rate, multiplier, self.side(Part::FlatAt(rate)));
+            }
+        }
+        sum
+    }
+
+    // Flat-rate margin, in whole dollars.
+    pub(crate) fn flat_margin(&self) -> i64
+        ensures value { result ≡ flat_margin (S.meaning self.now.source.now) self.now.account.settings.now all_stocks all_rates (stock_market self.now.account.places.now) }
+        ensures bound { unsigned_abs result ≤ 1342177280000000000 }
+    {
+        round_off(self.flat_sum(), CHARGE_UNITS) as i64
+    }
 }

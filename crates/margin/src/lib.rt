@@ -1,6 +1,7 @@
 // A margin account, and its assessment: from the live entries of a table to the total.
 #![tactic(auto)]
 
+mod account;
 mod adding;
 mod assessing;
 mod closed;

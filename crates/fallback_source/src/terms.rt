@@ -3,7 +3,7 @@ ghost use Rattle.std.specs.Prelude.{◌≡◌};
 ghost use Rattle.fallback_source.specs.Refusals.{refusal_number};
 
 // Why no fallback source was made: the rate is not one that it can have.
-#[derive(Clone, Copy)]
+#[derive(Clone, Copy, PartialEq, Eq)]
 pub enum RateRefusal {
     Rate,
 }

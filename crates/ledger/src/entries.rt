@@ -1,5 +1,5 @@
 // The questions asked of an entry by itself.
-ghost use Rattle.std.specs.Prelude.{◌≡◌};
+ghost use Rattle.std.specs.Prelude.{◌≡◌, ok_or};
 ghost use Rattle.ledger.specs.Entries.{numbered, stocked, small, instrument_of, entry_of};
 
 use super::terms::{Entry, EntryRefusal, Instrument, Kind, Posting};
@@ -11,13 +11,13 @@ const MOST_SIZE: u64 = 20_000_000_000;
 pub fn is_numbered(number: u32) -> bool
     ensures { result ≡ numbered number }
 {
-    1 <= number && number <= 999_999_999
+    (1..=999_999_999).contains(&number)
 }
 
 fn is_stocked(stock: u32) -> bool
     ensures { result ≡ stocked stock }
 {
-    1 <= stock && stock <= 99_999
+    (1..=99_999).contains(&stock)
 }
 
 fn is_small(size: i64) -> bool
@@ -27,24 +27,21 @@ fn is_small(size: i64) -> bool
 }
 
 // The instrument of a kind's number and a stock's number, if both are ones.
-fn instrument_of(kind: u32, stock: u32) -> Option<Instrument>
-    ensures { result ≡ instrument_of kind stock }
+fn instrument_of(kind: u32, stock: u32) -> Result<Instrument, EntryRefusal>
+    ensures { result ≡ ok_or (instrument_of kind stock) EntryRefusal.Instrument }
 {
-    let kind = Kind::of(kind)?;
-    if is_stocked(stock) {
-        Some(Instrument { kind, stock })
-    } else {
-        None
+    let kind = Kind::try_from(kind)?;
+    if !is_stocked(stock) {
+        return Err(EntryRefusal::Instrument);
     }
+    Ok(Instrument { kind, stock })
 }
 
 // The entry that is posted: first its kind and stock are asked, then its three sizes.
 pub fn entry_of(posting: &Posting) -> Result<Entry, EntryRefusal>
     ensures { result ≡ entry_of posting.now }
 {
-    let Some(instrument) = instrument_of(posting.kind, posting.stock) else {
-        return Err(EntryRefusal::Instrument);
-    };
+    let instrument = instrument_of(posting.kind, posting.stock)?;
     let Posting {
         quantity,
         contract_value,

@@ -1,8 +1,8 @@
 // Kinds and their numbers.
 ghost use Rattle.std.specs.Prelude.{◌≡◌};
-ghost use Rattle.ledger.specs.Kinds.{kind_number, kind_of, same_instrument};
+ghost use Rattle.ledger.specs.Kinds.{kind_number, kind_or_refusal, same_instrument};
 
-use super::terms::{Instrument, Kind};
+use super::terms::{EntryRefusal, Instrument, Kind};
 
 impl Kind {
     // The number of the kind, 0 to 3.
@@ -16,26 +16,31 @@ impl Kind {
             Kind::Div => 3,
         }
     }
+}
 
-    // The kind of a number, if it is one's.
-    pub fn of(number: u32) -> Option<Kind>
-        ensures { result ≡ kind_of number }
-    {
+// The kind of a number, if it is one's.
+impl TryFrom<u32> for Kind {
+    type Error = EntryRefusal;
+
+    ghost try_from_gives = { λ number kind. kind ≡ kind_or_refusal number };
+
+    fn try_from(number: u32) -> Result<Kind, EntryRefusal> {
         match number {
-            0 => Some(Kind::Stock),
-            1 => Some(Kind::Dsp),
-            2 => Some(Kind::Sri),
-            3 => Some(Kind::Div),
-            _ => None,
+            0 => Ok(Kind::Stock),
+            1 => Ok(Kind::Dsp),
+            2 => Ok(Kind::Sri),
+            3 => Ok(Kind::Div),
+            _ => Err(EntryRefusal::Instrument),
         }
     }
 }
 
 impl Instrument {
     // Are two instruments one?
+    // Kept: its contract is the one place that says what the derived `==` tells.
     pub fn is(self, other: Instrument) -> bool
         ensures { result ≡ same_instrument self other }
     {
-        self.kind.number() == other.kind.number() && self.stock == other.stock
+        self == other
     }
 }

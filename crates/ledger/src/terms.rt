@@ -1,7 +1,7 @@
 // The words of an account: its settings, its entries, and the places of its table.
 
 // What an entry is of: the stock itself, or one of its entitlements.
-#[derive(Clone, Copy)]
+#[derive(Clone, Copy, PartialEq, Eq, PartialOrd, Ord)]
 pub enum Kind {
     Stock,
     Dsp,
@@ -10,14 +10,14 @@ pub enum Kind {
 }
 
 // A stock, or an entitlement of it.
-#[derive(Clone, Copy)]
+#[derive(Clone, Copy, PartialEq, Eq)]
 pub struct Instrument {
     pub kind: Kind,
     pub stock: u32,
 }
 
 // An entry as an office sends it, not yet checked; values in whole dollars.
-#[derive(Clone, Copy)]
+#[derive(Clone, Copy, PartialEq, Eq)]
 pub struct Posting {
     pub number: u32,
     pub kind: u32,
@@ -28,7 +28,7 @@ pub struct Posting {
 }
 
 // A checked entry, its number aside; values in whole dollars.
-#[derive(Clone, Copy)]
+#[derive(Clone, Copy, PartialEq, Eq)]
 pub struct Entry {
     pub instrument: Instrument,
     pub quantity: i64,
@@ -37,7 +37,7 @@ pub struct Entry {
 }
 
 // A place of the table that the caller lends.
-#[derive(Clone, Copy)]
+#[derive(Clone, Copy, PartialEq, Eq)]
 pub enum Place {
     Free,
     Live { number: u32, entry: Entry },
@@ -45,7 +45,7 @@ pub enum Place {
 }
 
 // The amounts that the engine does not work out itself, in whole dollars.
-#[derive(Clone, Copy)]
+#[derive(Clone, Copy, PartialEq, Eq)]
 pub struct GivenAmounts {
     pub liquidation: u64,
     pub structured_product: u64,
@@ -56,7 +56,7 @@ pub struct GivenAmounts {
 
 // What an account is opened with: the multiplier in hundredths, the credit in whole dollars, the floor rate in
 // ten-thousandths, and up to sixteen IPO stocks, 0 for none.
-#[derive(Clone, Copy)]
+#[derive(Clone, Copy, PartialEq, Eq)]
 pub struct Settings {
     pub multiplier: u32,
     pub credit: u64,
@@ -66,14 +66,14 @@ pub struct Settings {
 }
 
 // Why an account is not opened.
-#[derive(Clone, Copy)]
+#[derive(Clone, Copy, PartialEq, Eq)]
 pub enum OpeningRefusal {
     Table,
     Settings,
 }
 
 // Why a post or a cancel is refused.
-#[derive(Clone, Copy)]
+#[derive(Clone, Copy, PartialEq, Eq)]
 pub enum EntryRefusal {
     Number,
     Instrument,

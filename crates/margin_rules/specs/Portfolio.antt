@@ -14,14 +14,13 @@ use Rattle.return_source.specs.declared.terms.ScenarioSet.TheVariants.{Historica
 use Rattle.return_source.specs.declared.terms.Scenarios.{Scenarios}
 use Rattle.return_source.specs.declared.terms.Tier.{Tier}
 use Rattle.return_source.specs.declared.terms.Tier.TheVariants.{Portfolio, Flat}
-use Rattle.return_source.specs.Meaning.{Meaning, tier_of}
+use Rattle.return_source.specs.Meaning.{Meaning, scenarios_of_set, tier_of}
 use Rattle.ledger.specs.declared.terms.Settings.{Settings}
 use Rattle.ledger.specs.Settings.{is_ipo}
 
 -- a set of scenarios by its name
 abbrev pub scenarios : Meaning → ScenarioSet → Scenarios
-scenarios m Historical = m.parameters.historical
-scenarios m Stress = m.parameters.stress
+scenarios m w = scenarios_of_set m.parameters w
 
 -- a return in hundred-millionths: 0 where there is no row
 abbrev pub return_at : Option (List ℤ) → ℕ → ℤ

@@ -2,14 +2,14 @@
 use ledger::Kind;
 
 // A group's total in one scenario, in whole dollars.
-#[derive(Clone, Copy)]
+#[derive(Clone, Copy, PartialEq, Eq)]
 pub struct Outcome {
     pub total: i64,
     pub scenario: u32,
 }
 
 // A position as the holdings list shows it; a spare place has stock 0.
-#[derive(Clone, Copy)]
+#[derive(Clone, Copy, PartialEq, Eq)]
 pub struct Holding {
     pub kind: Kind,
     pub stock: u32,
@@ -17,7 +17,7 @@ pub struct Holding {
 }
 
 // How many places the caller's sheets and list have.
-#[derive(Clone, Copy)]
+#[derive(Clone, Copy, PartialEq, Eq)]
 pub struct Room {
     pub totals: usize,
     pub row: usize,
@@ -27,7 +27,7 @@ pub struct Room {
 
 // The figures of an assessment in whole dollars, in the order in which they arise, and how many positions stand in the
 // portfolio tier.
-#[derive(Clone, Copy)]
+#[derive(Clone, Copy, PartialEq, Eq)]
 pub struct Assessment {
     pub portfolio: i64,
     pub flat_rate: i64,
@@ -45,7 +45,7 @@ pub struct Assessment {
 
 // Why an account is not assessed: the sheets or the list have not the right number of places, a live instrument has
 // neither tier nor entitlement, the gross market value is too large, or portfolio and flat-rate margin together are.
-#[derive(Clone, Copy)]
+#[derive(Clone, Copy, PartialEq, Eq)]
 pub enum AssessmentRefusal {
     Sheets,
     Uncovered { kind: Kind, stock: u32 },

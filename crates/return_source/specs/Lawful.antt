@@ -10,7 +10,7 @@ use Rattle.return_source.specs.declared.terms.Scenarios.{Scenarios}
 use Rattle.return_source.specs.declared.terms.ScenarioSet.{ScenarioSet}
 use Rattle.return_source.specs.declared.terms.ScenarioSet.TheVariants.{Historical, Stress}
 use Rattle.return_source.specs.declared.terms.Tier.TheVariants.{Portfolio, Flat}
-use Rattle.return_source.specs.Meaning.{Meaning, tier_of}
+use Rattle.return_source.specs.Meaning.{Meaning, scenarios_of_set, tier_of}
 
 -- a set of scenarios: a weight of at most 1, 1 to 4,000 scenarios, and a tail of 1 to 100 of them
 pub record LawfulScenarios (s : Scenarios) : Type 0 where
@@ -32,8 +32,7 @@ pub record LawfulParameters (p : Parameters) : Type 0 where
 
 -- how many scenarios a set has
 abbrev pub scenario_count : Parameters → ScenarioSet → ℕ
-scenario_count p Historical = p.historical.count
-scenario_count p Stress = p.stress.count
+scenario_count p w = (scenarios_of_set p w).count
 
 -- a row of returns: one for each scenario, each from -4 to 4, in hundred-millionths
 pub record LawfulRow (count : ℕ) (xs : List ℤ) : Type 0 where

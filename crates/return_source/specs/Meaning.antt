@@ -2,6 +2,7 @@
 -- its entitlement of each type, where it has them. Assumes nothing.
 use Rattle.std.specs.Prelude.{ℕ, Bool, true, false, cond, List, ◌++◌, length, drop, ℤ, is_some, Some, None, Ok, Err, Option, Result, nat_lt}
 use Rattle.return_source.specs.declared.terms.Parameters.{Parameters}
+use Rattle.return_source.specs.declared.terms.Scenarios.{Scenarios}
 use Rattle.return_source.specs.declared.terms.ScenarioSet.{ScenarioSet}
 use Rattle.return_source.specs.declared.terms.ScenarioSet.TheVariants.{Historical, Stress}
 use Rattle.return_source.specs.declared.terms.EntitlementType.{EntitlementType}
@@ -16,6 +17,11 @@ pub record Meaning : Type 0 where
   pub returns : ScenarioSet → ℕ → Option (List ℤ)
   pub rate : ℕ → Option ℕ
   pub entitlement : EntitlementType → ℕ → Option Entitlement
+
+-- a set of scenarios by its name
+abbrev pub scenarios_of_set : Parameters → ScenarioSet → Scenarios
+scenarios_of_set p Historical = p.historical
+scenarios_of_set p Stress = p.stress
 
 -- the tier by which rows a stock has: both return rows, a flat rate, or neither
 abbrev pub tier_by : Bool → Bool → Bool → Option Tier

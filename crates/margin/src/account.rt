@@ -6,6 +6,7 @@ ghost use Rattle.ledger.specs.Settings.{settings_in_range};
 ghost use Rattle.ledger.specs.Table.{sound};
 ghost use Rattle.margin_rules.specs.Positions.{market_in};
 
+use crate::visits::{Visit, Visits};
 use ledger::{Place, Settings};
 
 // The places that an account uses, and its settings.
@@ -24,4 +25,17 @@ pub(crate) struct Assessable<'a, S> {
     pub(crate) account: Account<'a>,
     pub(crate) source: &'a S,
     ghost small: { (k : Kind) (x : ℕ) → unsigned_abs (sum_of (market_in k x) account.places.now) ≤ 20000000000 },
+}
+
+impl<'a> Account<'a> {
+    // The visits of its places.
+    pub(crate) fn visits<V: Visit>(&self, by: V) -> Visits<'a, V>
+        ensures places { result.places.now ≡ self.now.places.now }
+        ensures by { result.by ≡ by }
+    {
+        Visits {
+            places: self.places,
+            by,
+        }
+    }
 }

@@ -1,4 +1,5 @@
 // The assessment of a table's places: the questions in their order, the figures, and what the sheets are left with.
+// Kept: the three lent sheets stay parameters of their own: in a struct two of them cannot be lent at once ("a call keeps the loan of a slice in a field while another field is used").
 ghost use Rattle.std.specs.Prelude.{◌≡◌, ◌≤◌, true, length, take, replicate, pos, unsigned_abs};
 ghost use Rattle.ledger.specs.Settings.{settings_in_range};
 ghost use Rattle.ledger.specs.Table.{sound};
@@ -72,7 +73,7 @@ impl<S: ReturnSource> Assessable<'_, S> {
         }
         let account = self.account;
         let corporate_action = self.corporate_margin();
-        let positions = account.portfolio_positions(self.source);
+        let positions = self.portfolio_positions();
         let mark = account.mark();
         let margins = Margins {
             portfolio,

@@ -1,51 +1,46 @@
 // Flat-rate margin: the flat stocks of one rate are set off against one another.
-ghost use Rattle.std.specs.Prelude.{◌≡◌, ◌+◌, ◌*◌, ◌<◌, ◌≤◌, length, drop, pos, ◌*ℤ◌, slice_index_or, unsigned_abs};
+ghost use Rattle.std.specs.Prelude.{◌≡◌, ◌*◌, ◌≤◌, true, pos, ◌*ℤ◌, unsigned_abs};
 ghost use Rattle.margin_rules.specs.Positions.{all_stocks};
 ghost use Rattle.margin_rules.specs.Charges.{all_rates, flat_of, flat_margin};
 ghost use Rattle.margin.specs.Groups.{stock_market};
-ghost use Rattle.margin.specs.Visits.{rate_in, any_key, last_key};
+ghost use Rattle.margin.specs.Visits.{rate_in};
 
 use crate::account::Assessable;
 use crate::figures::round_off;
-use crate::sides::{Part, is_flat};
-use crate::visits::{is_key, stock_of};
+use crate::parts::Part;
+use crate::visits::{Visit, stock_of};
 use ledger::{Kind, Place};
-use return_source::ReturnSource;
+use return_source::{ReturnSource, Tier};
 
 // The rate of a live entry's stock, where it stands in the flat tier.
 fn rate_of<S: ReturnSource>(place: &Place, source: &S) -> Option<u32>
     ensures { result ≡ rate_in (S.meaning source.now) place.now }
 {
     let stock = stock_of(place, Kind::Stock)?;
-    if is_flat(source.tier(stock)) {
+    if source.tier(stock) == Some(Tier::Flat) {
         source.flat_rate(stock)
     } else {
         None
     }
 }
 
-// Has any live entry's stock this rate?
-fn has_rate<S: ReturnSource>(slots: &[Place], source: &S, rate: u32) -> bool
-    ensures { result ≡ any_key (rate_in (S.meaning source.now)) rate slots.now }
-{
-    for place in slots {
-        if is_key(rate_of(place, source), rate) {
-            return true;
-        }
-    }
-    false
+// Each rate of the flat tier.
+#[derive(Drop)]
+struct FlatRates<'a, S> {
+    source: &'a S,
 }
 
-// The rate of the place at i, if no later place has it.
-fn last_rate<S: ReturnSource>(slots: &[Place], i: usize, source: &S) -> Option<u32>
-    requires { i < length slots.now }
-    ensures { result ≡ last_key (rate_in (S.meaning source.now) (slice_index_or slots.now i Place.Free)) (λ q. any_key (rate_in (S.meaning source.now)) q (drop (i + 1) slots.now)) }
-{
-    let rate = rate_of(&slots[i], source)?;
-    if has_rate(&slots[i + 1..], source, rate) {
-        None
-    } else {
-        Some(rate)
+impl<S: ReturnSource> Visit for FlatRates<'_, S> {
+    ghost key_in = { λ it. rate_in (S.meaning it.source.now) };
+
+    ghost counts = { λ it q. true };
+
+    fn key_in(&self, place: &Place) -> Option<u32> {
+        rate_of(place, self.source)
+    }
+
+    fn counts(&self, _rate: u32) -> bool {
+        true
     }
 }
 
@@ -71,10 +66,11 @@ impl<S: ReturnSource> Assessable<'_, S> {
     {
         let multiplier = self.account.settings.multiplier;
         let mut sum: i128 = 0;
-        for i in 0..self.account.places.len() {
-            if let Some(rate) = last_rate(self.account.places, i, self.source) {
-                sum += charge(rate, multiplier, self.side(Part::FlatAt(rate)));
-            }
+        let rates = FlatRates {
+            source: self.source,
+        };
+        for rate in self.account.visits(rates) {
+            sum += charge(rate, multiplier, self.side(Part::FlatAt(rate)));
         }
         sum
     }

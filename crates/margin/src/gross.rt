@@ -4,7 +4,6 @@ ghost use Rattle.amounts.specs.Sums.{sum_of};
 ghost use Rattle.margin_rules.specs.Positions.{all_stocks, market_in, gross_of};
 
 use crate::account::Account;
-use crate::visits::last_stock;
 use ledger::Kind;
 
 // All kinds of instrument, in order.
@@ -17,10 +16,8 @@ impl Account<'_> {
         ensures bound { unsigned_abs result ≤ 335544320000000000 }
     {
         let mut gross: i64 = 0;
-        for i in 0..self.places.len() {
-            if let Some(stock) = last_stock(self.places, kind, i) {
-                gross += self.market_of(kind, stock).abs();
-            }
+        for stock in self.visits(kind) {
+            gross += self.market_of(kind, stock).abs();
         }
         gross
     }

@@ -1,19 +1,18 @@
 // The groups of the portfolio tier and their tails.
-ghost use Rattle.std.specs.Prelude.{◌≡◌, ◌<◌, ◌≤◌, length, unsigned_abs};
+// Kept: the three lent sheets stay parameters of their own: in a struct two of them cannot be lent at once ("a call keeps the loan of a slice in a field while another field is used").
+ghost use Rattle.std.specs.Prelude.{◌≡◌, ◌≤◌, length, unsigned_abs};
 ghost use Rattle.std.specs.List.{AllByRecursion};
 ghost use Rattle.amounts.specs.Sums.{sum_of, when};
 ghost use Rattle.amounts.specs.Tails.{tail_sum};
 ghost use Rattle.margin_rules.specs.Positions.{all_stocks};
-ghost use Rattle.margin_rules.specs.Portfolio.{scenarios, rounded_product, is_common, is_own, common_totals, own_totals, tails_of};
-ghost use Rattle.margin.specs.Visits.{stock_in};
-ghost use Rattle.margin.specs.Groups.{visited_at, only, held_stocks, stock_market};
+ghost use Rattle.margin_rules.specs.Portfolio.{scenarios, rounded_product, is_own, common_totals, own_totals, tails_of};
+ghost use Rattle.margin.specs.Groups.{held_stocks, stock_market};
 
 use crate::account::Assessable;
-use crate::counting::in_portfolio;
+use crate::parts::Part;
 use crate::returns::add_returns;
 use crate::tails::tail_sum;
-use crate::visits::{last_stock, stock_of};
-use ledger::{Kind, Place};
+use ledger::Kind;
 use margin_rules::Outcome;
 use return_source::{ReturnSource, ScenarioSet};
 
@@ -37,32 +36,6 @@ fn own_totals<S: ReturnSource>(
 }
 
 impl<S: ReturnSource> Assessable<'_, S> {
-    // The stock visited at a place, where it is one of the common group.
-    fn common_stock(&self, i: usize) -> Option<u32>
-        requires { i < length self.now.account.places.now }
-        ensures { result ≡ only (is_common (S.meaning self.now.source.now) self.now.account.settings.now) (visited_at (stock_in Kind.Stock) self.now.account.places.now i) }
-    {
-        let stock = stock_of(&self.account.places[i], Kind::Stock)?;
-        if !self.account.settings.is_ipo(stock) && in_portfolio(self.source, stock) {
-            last_stock(self.account.places, Kind::Stock, i)
-        } else {
-            None
-        }
-    }
-
-    // The stock visited at a place, where it is a group by itself.
-    fn own_stock(&self, i: usize) -> Option<u32>
-        requires { i < length self.now.account.places.now }
-        ensures { result ≡ only (is_own (S.meaning self.now.source.now) self.now.account.settings.now) (visited_at (stock_in Kind.Stock) self.now.account.places.now i) }
-    {
-        let stock = stock_of(&self.account.places[i], Kind::Stock)?;
-        if self.account.settings.is_ipo(stock) && in_portfolio(self.source, stock) {
-            last_stock(self.account.places, Kind::Stock, i)
-        } else {
-            None
-        }
-    }
-
     // The totals of the common group in a set of scenarios.
     fn common_totals(&self, set: ScenarioSet, totals: &mut [i64], row: &mut [i32])
         requires count { length totals.old ≡ (scenarios (S.meaning self.now.source.now) set).count }
@@ -71,11 +44,9 @@ impl<S: ReturnSource> Assessable<'_, S> {
         ensures bound { AllByRecursion (λ t. unsigned_abs t ≤ 400000000000000) totals.new }
     {
         totals.fill(0);
-        for i in 0..self.account.places.len() {
-            if let Some(stock) = self.common_stock(i) {
-                let value = self.market_of(Kind::Stock, stock);
-                add_returns(self.source, set, stock, value, totals, row);
-            }
+        for stock in self.visits_in(Part::Common) {
+            let value = self.market_of(Kind::Stock, stock);
+            add_returns(self.source, set, stock, value, totals, row);
         }
     }
 
@@ -114,10 +85,8 @@ impl<S: ReturnSource> Assessable<'_, S> {
         ensures bound { unsigned_abs result ≤ 40000000000000000 }
     {
         let mut sum: i64 = 0;
-        for i in 0..self.account.places.len() {
-            if let Some(stock) = self.own_stock(i) {
-                sum += self.own_tail(set, stock, totals, row, tail);
-            }
+        for stock in self.visits_in(Part::Own) {
+            sum += self.own_tail(set, stock, totals, row, tail);
         }
         sum
     }

@@ -15,6 +15,7 @@ mod gross;
 mod groups;
 mod listing;
 mod opened;
+mod parts;
 mod portfolio;
 mod positions;
 mod requests;

@@ -7,7 +7,6 @@ ghost use Rattle.margin.specs.Listing.{listed};
 
 use crate::account::Account;
 use crate::gross::KINDS;
-use crate::visits::last_stock;
 use first_few::FirstFew;
 use ledger::Kind;
 use margin_rules::Holding;
@@ -27,15 +26,12 @@ impl Account<'_> {
         ensures room { length list.new.places.now ≡ length list.old.places.now }
         ensures same { list.new.places.ghost_name ≡ list.old.places.ghost_name }
     {
-        for i in 0..self.places.len() {
-            if let Some(stock) = last_stock(self.places, kind, i) {
-                let market_value = self.market_of(kind, stock);
-                list.offer(Holding {
-                    kind,
-                    stock,
-                    market_value,
-                });
-            }
+        for stock in self.visits(kind) {
+            list.offer(Holding {
+                kind,
+                stock,
+                market_value: self.market_of(kind, stock),
+            });
         }
     }
 

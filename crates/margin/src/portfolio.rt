@@ -6,7 +6,7 @@ ghost use Rattle.margin.specs.Groups.{stock_market, TotalsFit, RowFits, TailFits
 
 use crate::account::Assessable;
 use crate::figures::{product, round_off};
-use crate::sides::Part;
+use crate::parts::Part;
 use margin_rules::Outcome;
 use return_source::{Parameters, ReturnSource, ScenarioSet};
 

@@ -26,16 +26,13 @@ const NO_POSITION: Position = Position {
 fn part_of(place: &Place, kind: Kind, stock: u32) -> Position
     ensures { result ≡ part kind stock place.now }
 {
-    let Place::Live { number: _, entry } = place else {
-        return NO_POSITION;
-    };
-    if !(Instrument { kind, stock }).is(entry.instrument) {
-        return NO_POSITION;
-    }
-    Position {
-        quantity: entry.quantity,
-        contract_value: entry.contract_value,
-        market_value: entry.market_value,
+    match place {
+        Place::Live { entry, .. } if entry.instrument == (Instrument { kind, stock }) => Position {
+            quantity: entry.quantity,
+            contract_value: entry.contract_value,
+            market_value: entry.market_value,
+        },
+        _ => NO_POSITION,
     }
 }
 
@@ -46,8 +43,8 @@ fn mark_in(place: &Place) -> i64
     ensures bound { unsigned_abs result ≤ 40000000000 }
 {
     match place {
-        Place::Live { number: _, entry } => entry.market_value - entry.contract_value,
-        Place::Free | Place::Cancelled { number: _ } => 0,
+        Place::Live { entry, .. } => entry.market_value - entry.contract_value,
+        Place::Free | Place::Cancelled { .. } => 0,
     }
 }
 
@@ -59,6 +56,7 @@ impl Account<'_> {
         ensures contract_value { unsigned_abs result.contract_value ≤ 81920000000000 }
         ensures market_value { unsigned_abs result.market_value ≤ 81920000000000 }
     {
+        // Kept: the project has this loop over the table's elements, as a sum of signed numbers leaves its bound open.
         let mut sums = NO_POSITION;
         for place in self.places {
             let part = part_of(place, kind, stock);

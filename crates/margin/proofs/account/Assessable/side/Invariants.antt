@@ -1,12 +1,15 @@
-use Rattle.amounts.specs.Sums.{sum_of}
+use Rattle.std.proofs.Common.{ℕ, List}
 use Rattle.amounts.specs.Charges.{long, short}
-use Rattle.ledger.specs.declared.terms.Kind.TheVariants.{Stock}
-use Rattle.margin_rules.specs.Positions.{market_in}
-use Rattle.margin.proofs.SideLaws.{SideSofar}
+use Rattle.margin.specs.Groups.{stock_market}
+use Rattle.margin.proofs.Visiting.{Visiting, part_stocks}
 use Rattle.margin.proofs.account.Assessable.side.Given as goal
 
-abbrev pub invariant-loop-i : goal.invariant-loop-i
-invariant-loop-i g l = record {
-  longs : SideSofar (g.S.ReturnSource.meaning l.self.source.now) l.part (λ x. sum_of (market_in Stock x) l.self.account.places.now) long l.self.account.places.now l.i l.long;
-  shorts : SideSofar (g.S.ReturnSource.meaning l.self.source.now) l.part (λ x. sum_of (market_in Stock x) l.self.account.places.now) short l.self.account.places.now l.i l.short;
-}
+abbrev pub invariant-loop-stock : goal.invariant-loop-stock
+invariant-loop-stock g l =
+    let xs = l.self.account.places.now in
+    let all : List ℕ = part_stocks (g.S.ReturnSource.meaning l.self.source.now) l.self.account.settings.now l.fn.part xs in
+    let left : List ℕ = part_stocks (g.S.ReturnSource.meaning l.stock-iterator.by.source.now) l.stock-iterator.by.settings.now l.stock-iterator.by.part l.stock-iterator.places.now in
+    record {
+      longs : Visiting 20000000000 (λ x. long (stock_market xs x)) all left l.long;
+      shorts : Visiting 20000000000 (λ x. short (stock_market xs x)) all left l.short;
+    }

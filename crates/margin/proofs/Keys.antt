@@ -1,43 +1,22 @@
 -- Passes by a key: each key is visited once, at the last of its places.
-use Rattle.std.proofs.Common.{◌≡◌, ℕ, ◌+◌, ◌<◌, ◌≤◌, Bool, true, false, cond, ◌||◌, eqb, List, [], ◌∷◌, length, get_or, drop, ℤ, pos, Some, None, Option, sym, refl, ap, ◌∙◌, inl, inr, arith, eq-eqb, eqb-true}
+use Rattle.std.proofs.Common.{◌≡◌, ℕ, Bool, true, false, cond, ◌||◌, eqb, List, [], ◌∷◌, ℤ, pos, Some, None, Option, sym, refl, ap, ◌∙◌, inl, inr, arith, eq-eqb, eqb-true}
 use Rattle.std.proofs.lemmas.Bool.{cases_Bool}
-use Rattle.std.proofs.lemmas.List.{at_drop_more, at_drop_all}
+use Rattle.std.specs.List.{list_any}
 use Rattle.amounts.specs.Sums.{sum_of}
 use Rattle.amounts.specs.Sets.{In, Apart}
 use Rattle.amounts.proofs.Support.{sum_support}
 use Rattle.ledger.specs.declared.terms.Place.{Place}
-use Rattle.ledger.specs.declared.terms.Place.TheVariants.{Free}
 use Rattle.margin.specs.Visits.{is_key, any_key, last_key, onto, visited}
 
 pub true_false : true ≡ false → ⊥
 true_false e = let z : ◌≡◌ {A = ℕ} 0 1 = cc in omega arith
 
+-- a search for a key asks each place
+pub any_key_is : (key : Place → Option ℕ) (q : ℕ) (ps : List Place) → any_key key q ps ≡ list_any (λ p. is_key q (key p)) ps
+any_key_is key q [] = refl
+any_key_is key q (p ∷ ps) = ap (λ b. is_key q (key p) || b) (any_key_is key q ps)
+
 module _ (key : Place → Option ℕ) where
-  -- one place of a search for a key
-  module _ (q : ℕ) (xs : List Place) (i : ℕ) where
-    pub any_here : i < length xs → is_key q (key (get_or xs i Free)) ≡ true → any_key key q (drop i xs) ≡ any_key key q xs → true ≡ any_key key q xs
-    any_here l e inv = sym (at_drop_more (any_key key q) xs i Free l ∙ ap (λ b. b || any_key key q (drop (i + 1) xs)) e) ∙ inv
-
-    pub any_more : i < length xs → is_key q (key (get_or xs i Free)) ≡ false → any_key key q (drop i xs) ≡ any_key key q xs → any_key key q (drop (i + 1) xs) ≡ any_key key q xs
-    any_more l e inv = sym (at_drop_more (any_key key q) xs i Free l ∙ ap (λ b. b || any_key key q (drop (i + 1) xs)) e) ∙ inv
-
-    pub any_none : length xs ≤ i → any_key key q (drop i xs) ≡ any_key key q xs → false ≡ any_key key q xs
-    any_none l inv = sym (at_drop_all (any_key key q) xs i l) ∙ inv
-
-  -- one place of a pass
-  module _ {Y : Type 0} (F : List ℕ → Y) (xs : List Place) (i : ℕ) where
-    pub pass : (r : Option ℕ) → i < length xs → r ≡ last_key (key (get_or xs i Free)) (λ q. any_key key q (drop (i + 1) xs)) → F (visited key (drop i xs)) ≡ F (onto r (visited key (drop (i + 1) xs)))
-    pass r l e = at_drop_more (λ l. F (visited key l)) xs i Free l ∙ ap (λ o. F (onto o (visited key (drop (i + 1) xs)))) (sym e)
-
-    pub pass_yes : (q : ℕ) → i < length xs → Some q ≡ last_key (key (get_or xs i Free)) (λ q. any_key key q (drop (i + 1) xs)) → F (visited key (drop i xs)) ≡ F (q ∷ visited key (drop (i + 1) xs))
-    pass_yes q l e = pass (Some q) l e
-
-    pub pass_no : i < length xs → None ≡ last_key (key (get_or xs i Free)) (λ q. any_key key q (drop (i + 1) xs)) → F (visited key (drop i xs)) ≡ F (visited key (drop (i + 1) xs))
-    pass_no l e = pass None l e
-
-    pub pass_end : length xs ≤ i → F (visited key (drop i xs)) ≡ F []
-    pass_end l = at_drop_all (λ l. F (visited key l)) xs i l
-
   or_more : (b c : Bool) → c ≡ true → (b || c) ≡ true
   or_more true c e = refl
   or_more false c e = e

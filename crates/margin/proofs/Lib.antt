@@ -2,6 +2,7 @@ pub mod AssessLaws
 pub mod CostLaws
 pub mod Counts
 pub mod DayLaws
+pub mod EntitlementLaws
 pub mod Gathered
 pub mod Held
 pub mod Keys
@@ -23,3 +24,4 @@ pub mod Support
 pub mod TableWrites
 pub mod TailSizes
 pub mod Uncovered
+pub mod Visiting

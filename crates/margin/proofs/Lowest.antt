@@ -1,7 +1,7 @@
 -- The lowest of the stocks of a kind that are held and pass a test, one place after the other.
-use Rattle.std.proofs.Common.{◌≡◌, ℕ, zero, suc, ◌+◌, ◌<◌, ◌≤◌, Bool, true, false, cond, ◌&&◌, ◌||◌, eqb, ◌⊎◌, List, [], ◌∷◌, Some, None, Option, sym, refl, ap, ◌∙◌, inl, inr, arith, eq-eqb, eqb-true}
+use Rattle.std.proofs.Common.{◌≡◌, ℕ, zero, suc, ◌+◌, ◌<◌, ◌≤◌, Bool, true, false, cond, ◌&&◌, ◌||◌, eqb, ◌⊎◌, min, List, [], ◌∷◌, filter, fold, Some, None, Option, sym, refl, ap, ◌∙◌, inl, inr, arith, eq-eqb, eqb-true}
 use borrow.Author.Tests.{eqb-false}
-use Rattle.std.specs.List.{range_with_len}
+use Rattle.std.specs.List.{range_with_len, filter_map, cons_option, reduce}
 use Rattle.std.proofs.lemmas.Bool.{and_from}
 use Rattle.ledger.specs.declared.terms.Kind.{Kind}
 use Rattle.ledger.specs.declared.terms.Place.{Place}
@@ -9,9 +9,18 @@ use Rattle.ledger.specs.Table.{sound}
 use Rattle.margin_rules.specs.Positions.{all_stocks, held_in, any_place}
 use Rattle.margin_rules.specs.Answers.{first_of}
 use Rattle.margin.specs.Visits.{stock_in, is_key, any_key}
-use Rattle.margin.specs.Lowest.{lower_of, lower_with}
 use Rattle.margin.proofs.Keys.{true_false}
 use Rattle.margin.proofs.Support.{held_same, held_stock}
+
+-- the lower of a stock and another, if there is one
+abbrev lower_of : ℕ → Option ℕ → ℕ
+lower_of x None = x
+lower_of x (Some y) = min x y
+
+-- the lowest so far, once one more stock is seen
+abbrev lower_with : (ℕ → Bool) → Option ℕ → Option ℕ → Option ℕ
+lower_with test None lowest = lowest
+lower_with test (Some x) lowest = cond (test x) (Some (lower_of x lowest)) lowest
 
 none_some : {X : Type 0} (x : X) → None ≡ Some x → ⊥
 none_some x e = let z : ◌≡◌ {A = ℕ} 0 1 = cc in omega arith
@@ -61,7 +70,7 @@ split y s c h = part (eqb y s) refl h
 
 module _ (test : ℕ → Bool) (key : Place → Option ℕ) where
   -- the lowest, from what was seen before
-  abbrev pub lowest : Option ℕ → List Place → Option ℕ
+  abbrev lowest : Option ℕ → List Place → Option ℕ
   lowest low [] = low
   lowest low (p ∷ ps) = lowest (lower_with test (key p) low) ps
 
@@ -128,7 +137,7 @@ both_false true false f = refl
 both_false false b f = refl
 
 -- the lowest of all places is the first of all stocks
-pub lowest_is : (test : ℕ → Bool) (k : Kind) (xs : List Place) → sound xs ≡ true → lowest test (stock_in k) None xs ≡ first_of (λ x. any_place (held_in k x) xs && test x) all_stocks
+lowest_is : (test : ℕ → Bool) (k : Kind) (xs : List Place) → sound xs ≡ true → lowest test (stock_in k) None xs ≡ first_of (λ x. any_place (held_in k x) xs && test x) all_stocks
 unfolding all_stocks
 lowest_is test k xs s = go (lowest test (stock_in k) None xs) (low_is test (stock_in k) None xs)
   where
@@ -143,3 +152,38 @@ lowest_is test k xs s = go (lowest test (stock_in k) None xs) (low_is test (stoc
         let r = held_stock k x xs s h in
         sym (first_some (λ x. any_place (held_in k x) xs && test x) 1 99999 x (and_from (any_place (held_in k x) xs) (test x) h b.1) r.0 (omega (arith, r.1))
         (λ y g. both_false (any_place (held_in k y) xs) (test y) (λ c. let u = l.least y (keyed y c.0, c.1) in omega (arith, u.2, some_same x u.0 u.1))))
+
+-- ---- the same as the least of a list
+min_turned : (x y : ℕ) → min x y ≡ min y x
+min_turned x y = omega arith
+
+module _ (test : ℕ → Bool) (key : Place → Option ℕ) where
+  abbrev pub passing : List Place → List ℕ
+  passing ps = filter test (filter_map key ps)
+
+  least_from : (a : ℕ) (ps : List Place) → lowest test key (Some a) ps ≡ Some (fold min a (passing ps))
+  least_from a [] = refl
+  least_from a (p ∷ ps) = go (key p) (λ b. least_from b ps)
+    where
+      here : (x : ℕ) (t : Bool) → ((b : ℕ) → lowest test key (Some b) ps ≡ Some (fold min b (passing ps))) → lowest test key (cond t (Some (min x a)) (Some a)) ps ≡ Some (fold min a (cond t (x ∷ passing ps) (passing ps)))
+      here x true j = j (min x a) ∙ ap (λ z. Some (fold min z (passing ps))) (min_turned x a)
+      here x false j = j a
+
+      go : (o : Option ℕ) → ((b : ℕ) → lowest test key (Some b) ps ≡ Some (fold min b (passing ps))) → lowest test key (lower_with test o (Some a)) ps ≡ Some (fold min a (filter test (cons_option o (filter_map key ps))))
+      go None j = j a
+      go (Some x) j = here x (test x) j
+
+  least_is : (ps : List Place) → lowest test key None ps ≡ reduce min (passing ps)
+  least_is [] = refl
+  least_is (p ∷ ps) = go (key p) (least_is ps)
+    where
+      here : (x : ℕ) (t : Bool) → lowest test key None ps ≡ reduce min (passing ps) → lowest test key (cond t (Some x) None) ps ≡ reduce min (cond t (x ∷ passing ps) (passing ps))
+      here x true j = least_from x ps
+      here x false j = j
+
+      go : (o : Option ℕ) → lowest test key None ps ≡ reduce min (passing ps) → lowest test key (lower_with test o None) ps ≡ reduce min (filter test (cons_option o (filter_map key ps)))
+      go None j = j
+      go (Some x) j = here x (test x) j
+
+pub least_of_all : (test : ℕ → Bool) (k : Kind) (xs : List Place) → sound xs ≡ true → reduce min (filter test (filter_map (stock_in k) xs)) ≡ first_of (λ x. any_place (held_in k x) xs && test x) all_stocks
+least_of_all test k xs s = sym (least_is test (stock_in k) xs) ∙ lowest_is test k xs s

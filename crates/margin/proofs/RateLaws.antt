@@ -1,8 +1,8 @@
 -- The rates of the flat tier: those that are visited, and all rates.
-use Rattle.std.proofs.Common.{◌≡◌, ℕ, ◌+◌, ◌*◌, ◌<◌, ◌≤◌, Bool, true, false, cond, ◌&&◌, ◌||◌, eqb, List, [], ◌∷◌, length, get_or, drop, ℤ, pos, ◌+ℤ◌, ◌*ℤ◌, nat_abs, IfSome, Some, None, Option, sym, refl, ap, ◌∙◌, inl, inr, arith, eqb-true}
+use Rattle.std.proofs.Common.{◌≡◌, ℕ, ◌*◌, ◌≤◌, Bool, true, false, cond, ◌&&◌, ◌||◌, eqb, List, [], ◌∷◌, ℤ, pos, ◌*ℤ◌, IfSome, Some, None, Option, sym, refl, ap, ◌∙◌, subst, inl, inr, arith, eqb-true}
 use lib.IntN.{*ℤ-zero}
 use Rattle.std.specs.Int.{int_max}
-use Rattle.std.proofs.lemmas.Int.{ints}
+use Rattle.std.specs.List.{AllByRecursion as All}
 use Rattle.std.proofs.lemmas.Bool.{cases_Bool}
 use Rattle.amounts.specs.Sums.{sum_of, when}
 use Rattle.amounts.specs.Sets.{In, Apart}
@@ -18,9 +18,10 @@ use Rattle.ledger.specs.Kinds.{same_kind}
 use Rattle.margin_rules.specs.Positions.{all_stocks, market_in, held_in, any_place}
 use Rattle.margin_rules.specs.Portfolio.{is_flat, side_of}
 use Rattle.margin_rules.specs.Charges.{all_rates, is_rate, at_rate, flat_of}
-use Rattle.margin.specs.Visits.{stock_in, is_key, any_key, last_key, visited, flat_rate_of, rate_by, rate_in}
-use Rattle.margin.proofs.Keys.{true_false, pass, pass_end, keys_sum}
+use Rattle.margin.specs.Visits.{stock_in, is_key, any_key, visited, flat_rate_of, rate_by, rate_in}
+use Rattle.margin.proofs.Keys.{true_false, keys_any, keys_sum}
 use Rattle.margin.proofs.Support.{market_none}
+use Rattle.margin.proofs.Visiting.{flat_rates, sum_filter, filter_all}
 use Rattle.margin.proofs.SideLaws.{OneSide, long_side, short_side}
 
 pub rates_apart : Apart all_rates
@@ -56,25 +57,13 @@ module _ (m : Meaning) (ok : Lawful m) where
       go true h k f = by_rate (stock_in Stock p) q h
       go false h k f = f k
 
-  some_key : (q : ℕ) (o : Option ℕ) → o ≡ Some q → is_key q o ≡ true
-  some_key q o e = ap (is_key q) e ∙ go q
+  -- every rate that is visited is one of all
+  pub rates_small : (ps : List Place) → All (λ q. q ≤ 10000) (flat_rates m ps)
+  rates_small ps = from_in (flat_rates m ps) (λ q i. any_rate q ps (keys_any (rate_in m) q ps (subst (λ l. In q l) (filter_all (visited (rate_in m) ps)) i)))
     where
-      go : (q : ℕ) → eqb q q ≡ true
-      go q = grind arith
-
-  pub place_rate : (p : Place) (q : ℕ) → rate_in m p ≡ Some q → q ≤ 10000
-  place_rate p q e = by_rate (stock_in Stock p) q (some_key q (rate_in m p) e)
-
-  last_is : (q : ℕ) (o : Option ℕ) (again : ℕ → Bool) → Some q ≡ last_key o again → o ≡ Some q
-  last_is q None again e = absurd (cc)
-  last_is q (Some r) again e = go (again r) e
-    where
-      go : (b : Bool) → Some q ≡ cond b None (Some r) → Some r ≡ Some q
-      go true f = absurd (cc)
-      go false f = sym f
-
-  pub visited_rate : (p : Place) (q : ℕ) (again : ℕ → Bool) → Some q ≡ last_key (rate_in m p) again → q ≤ 10000
-  visited_rate p q again e = place_rate p q (last_is q (rate_in m p) again e)
+      from_in : (xs : List ℕ) → ((q : ℕ) → In q xs → q ≤ 10000) → All (λ q. q ≤ 10000) xs
+      from_in [] h = tt
+      from_in (x ∷ xs) h = (h x (inl refl), from_in xs (λ q i. h q (inr i)))
 
 -- a stock that is held at a rate has that rate among the places
 module _ (m : Meaning) (q x : ℕ) where
@@ -123,32 +112,15 @@ module _ (m : Meaning) (ps : List Place) where
   unfolding side_of
   side_none q e = λ i. int_max (part_none long long_side q e i) (part_none short short_side q e i)
 
--- what the sub-categories cost, so far and in all
+-- what the sub-categories cost
 module _ (m : Meaning) (s : Settings) (xs : List Place) where
-  abbrev cost : ℕ → ℤ
+  abbrev pub cost : ℕ → ℤ
   cost q = pos (q * s.multiplier) *ℤ side_of all_stocks (at_rate m q) (λ x. sum_of (market_in Stock x) xs)
 
-  pub record CostSofar (i : ℕ) (a : ℤ) : Type 0 where
-    pub whole : a +ℤ sum_of cost (visited (rate_in m) (drop i xs)) ≡ sum_of cost (visited (rate_in m) xs)
-    pub little : nat_abs a ≤ 327680000000000000000 * i
-
-  pub cost_start : CostSofar 0 (pos 0)
-  cost_start = record { whole = omega (arith, ints); little = omega arith }
-
-  pub cost_yes : (i : ℕ) (a b r : ℤ) (q : ℕ) → i < length xs → Some q ≡ last_key (rate_in m (get_or xs i Free)) (λ q. any_key (rate_in m) q (drop (i + 1) xs)) → r ≡ cost q → nat_abs r ≤ 327680000000000000000 → b ≡ a +ℤ r → CostSofar i a → CostSofar (i + 1) b
-  cost_yes i a b r q l e v n is k =
-      let p = pass (rate_in m) (sum_of cost) xs i (Some q) l e in
-      record { whole = omega (arith, ints, p, v, is, k.whole); little = omega (arith, ints, is, n, k.little) }
-
-  pub cost_no : (i : ℕ) (a b : ℤ) → i < length xs → None ≡ last_key (rate_in m (get_or xs i Free)) (λ q. any_key (rate_in m) q (drop (i + 1) xs)) → b ≡ a → CostSofar i a → CostSofar (i + 1) b
-  cost_no i a b l e is k =
-      let p = pass (rate_in m) (sum_of cost) xs i None l e in
-      record { whole = omega (arith, ints, p, is, k.whole); little = omega (arith, ints, is, k.little) }
-
-  pub cost_end : Lawful m → (i : ℕ) (a : ℤ) → length xs ≤ i → CostSofar i a → a ≡ flat_of m s all_stocks all_rates (λ x. sum_of (market_in Stock x) xs)
+  -- what the rates that are visited cost is what all rates cost
+  pub rates_cost : Lawful m → sum_of cost (flat_rates m xs) ≡ flat_of m s all_stocks all_rates (λ x. sum_of (market_in Stock x) xs)
   unfolding flat_of
-  cost_end ok i a l k =
-      let e = pass_end (rate_in m) (sum_of cost) xs i l in
-      let z : a ≡ sum_of cost (visited (rate_in m) xs) = omega (arith, ints, e, k.whole) in
-      z ∙ keys_sum (rate_in m) xs all_rates rates_apart (λ q h. in_rates q (any_rate m ok q xs h)) cost
+  rates_cost ok =
+      sum_filter (λ q. true) cost (visited (rate_in m) xs)
+      ∙ keys_sum (rate_in m) xs all_rates rates_apart (λ q h. in_rates q (any_rate m ok q xs h)) cost
       (λ q h. ap (λ w. pos (q * s.multiplier) *ℤ w) (side_none m xs q h) ∙ *ℤ-zero (pos (q * s.multiplier)))

@@ -1,5 +1,5 @@
 -- A sum over the places of a table, one place after the other.
-use Rattle.std.proofs.Common.{◌≡◌, ℕ, ◌+◌, ◌*◌, ◌<◌, ◌≤◌, Bool, true, false, cond, List, length, get_or, drop, ℤ, pos, ◌+ℤ◌, nat_abs, Some, None, Option, arith}
+use Rattle.std.proofs.Common.{◌≡◌, ℕ, ◌+◌, ◌*◌, ◌<◌, ◌≤◌, Bool, true, false, cond, List, length, get_or, drop, ℤ, pos, ◌+ℤ◌, nat_abs, arith}
 use Rattle.std.proofs.lemmas.Int.{ints}
 use Rattle.std.proofs.lemmas.List.{at_drop_more, at_drop_all}
 use Rattle.amounts.specs.Sums.{sum_of}
@@ -10,8 +10,6 @@ use Rattle.ledger.specs.Table.{sound_place}
 use Rattle.margin_rules.specs.Positions.{is_of, market_in}
 use Rattle.margin.specs.Positions.{quantity_in, contract_in}
 use Rattle.margin.proofs.Support.{ranged}
-use Rattle.margin.specs.Visits.{any_key, last_key, visited}
-use Rattle.margin.proofs.Keys.{pass_yes, pass_no, pass_end}
 
 -- what is summed so far and what is left make the whole, and each element has added at most `most`
 pub record SoFar {X : Type 0} (most : ℕ) (f : X → ℤ) (xs : List X) (i : ℕ) (s : ℤ) : Type 0 where
@@ -30,30 +28,6 @@ module _ {X : Type 0} (most : ℕ) (f : X → ℤ) (xs : List X) where
   pub so_far_all : (i : ℕ) (s : ℤ) → length xs ≤ i → SoFar most f xs i s → s ≡ sum_of f xs
   so_far_all i s l k =
       let d : sum_of f (drop i xs) ≡ pos 0 = at_drop_all (sum_of f) xs i l in
-      omega (arith, ints, k.whole)
-
--- the same over the keys that are visited
-pub record Visiting (key : Place → Option ℕ) (most : ℕ) (f : ℕ → ℤ) (xs : List Place) (i : ℕ) (s : ℤ) : Type 0 where
-  pub whole : s +ℤ sum_of f (visited key (drop i xs)) ≡ sum_of f (visited key xs)
-  pub size : nat_abs s ≤ most * i
-
-module _ (key : Place → Option ℕ) (most : ℕ) (f : ℕ → ℤ) (xs : List Place) where
-  pub visiting_start : Visiting key most f xs 0 (pos 0)
-  visiting_start = record { whole = omega (arith, ints); size = omega arith }
-
-  pub visiting_yes : (i q : ℕ) (s v t : ℤ) → t ≡ s +ℤ v → i < length xs → Some q ≡ last_key (key (get_or xs i Free)) (λ q. any_key key q (drop (i + 1) xs)) → v ≡ f q → nat_abs v ≤ most → Visiting key most f xs i s → Visiting key most f xs (i + 1) t
-  visiting_yes i q s v t a l e w b k =
-      let d : sum_of f (visited key (drop i xs)) ≡ f q +ℤ sum_of f (visited key (drop (i + 1) xs)) = pass_yes key (sum_of f) xs i q l e in
-      record { whole = omega (arith, ints, k.whole); size = omega (arith, ints, k.size) }
-
-  pub visiting_no : (i : ℕ) (s : ℤ) → i < length xs → None ≡ last_key (key (get_or xs i Free)) (λ q. any_key key q (drop (i + 1) xs)) → Visiting key most f xs i s → Visiting key most f xs (i + 1) s
-  visiting_no i s l e k =
-      let d : sum_of f (visited key (drop i xs)) ≡ sum_of f (visited key (drop (i + 1) xs)) = pass_no key (sum_of f) xs i l e in
-      record { whole = omega (arith, ints, k.whole); size = omega (arith, ints, k.size) }
-
-  pub visiting_all : (i : ℕ) (s : ℤ) → length xs ≤ i → Visiting key most f xs i s → s ≡ sum_of f (visited key xs)
-  visiting_all i s l k =
-      let d : sum_of f (visited key (drop i xs)) ≡ pos 0 = pass_end key (sum_of f) xs i l in
       omega (arith, ints, k.whole)
 
 cond_small : (b : Bool) (z : ℤ) (n : ℕ) → nat_abs z ≤ n → nat_abs (cond b z (pos 0)) ≤ n

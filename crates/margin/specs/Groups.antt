@@ -1,21 +1,11 @@
 -- How the code goes over the positions of a group. Assumes nothing.
-use Rattle.std.specs.Prelude.{ℕ, ◌+◌, ◌≤◌, max, Bool, cond, List, drop, ℤ, Some, None, Option, slice_index_or}
+use Rattle.std.specs.Prelude.{ℕ, ◌+◌, ◌≤◌, max, List, ℤ}
 use Rattle.amounts.specs.Sums.{sum_of}
 use Rattle.return_source.specs.Meaning.{Meaning}
 use Rattle.ledger.specs.declared.terms.Kind.TheVariants.{Stock}
 use Rattle.ledger.specs.declared.terms.Place.{Place}
-use Rattle.ledger.specs.declared.terms.Place.TheVariants.{Free}
 use Rattle.margin_rules.specs.Positions.{market_in}
-use Rattle.margin.specs.Visits.{stock_in, any_key, last_key, visited}
-
--- the key that is visited at a place, if one is
-abbrev pub visited_at : (Place → Option ℕ) → List Place → ℕ → Option ℕ
-visited_at key slots i = last_key (key (slice_index_or slots i Free)) (λ q. any_key key q (drop (i + 1) slots))
-
--- a stock, if it passes a test
-abbrev pub only : (ℕ → Bool) → Option ℕ → Option ℕ
-only p None = None
-only p (Some x) = cond (p x) (Some x) None
+use Rattle.margin.specs.Visits.{stock_in, visited}
 
 -- the stocks held, each once
 abbrev pub held_stocks : List Place → List ℕ

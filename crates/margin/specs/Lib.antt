@@ -3,9 +3,9 @@ pub mod Assessing
 pub mod Costs
 pub mod DayNumbers
 pub mod Days
+pub mod EntitlementTypes
 pub mod Groups
 pub mod Listing
-pub mod Lowest
 pub mod Outcomes
 pub mod Parts
 pub mod Positions

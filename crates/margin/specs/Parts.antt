@@ -1,19 +1,16 @@
--- The parts of an account's positions that are set off against one another: all of the portfolio tier for the floor, and the
--- flat stocks of one rate. Assumes nothing.
-use Rattle.std.specs.Prelude.{ℕ, Bool, ℤ, pos, Some, None, Option}
-use Rattle.amounts.specs.Sums.{when}
+-- The parts of an account's positions that are worked out together: all of the portfolio tier for the floor, its common group and
+-- its groups of one stock for the tails, and the flat stocks of one rate. Assumes nothing.
+use Rattle.std.specs.Prelude.{ℕ, Bool}
 use Rattle.return_source.specs.Meaning.{Meaning}
-use Rattle.margin.specs.declared.sides.Part.{Part}
-use Rattle.margin.specs.declared.sides.Part.TheVariants.{Portfolio, FlatAt}
-use Rattle.margin_rules.specs.Portfolio.{in_portfolio}
+use Rattle.ledger.specs.declared.terms.Settings.{Settings}
+use Rattle.margin.specs.declared.parts.Part.{Part}
+use Rattle.margin.specs.declared.parts.Part.TheVariants.{Portfolio, Common, Own, FlatAt}
+use Rattle.margin_rules.specs.Portfolio.{in_portfolio, is_common, is_own}
 use Rattle.margin_rules.specs.Charges.{at_rate}
 
 -- does a stock belong to a part?
-abbrev pub in_part : Meaning → Part → ℕ → Bool
-in_part m Portfolio x = in_portfolio m x
-in_part m (FlatAt q) x = at_rate m q x
-
--- the market value that a visit adds to a part
-abbrev pub value_of : Meaning → Part → (ℕ → ℤ) → Option ℕ → ℤ
-value_of m part mv None = pos 0
-value_of m part mv (Some x) = when (in_part m part x) (mv x)
+abbrev pub in_part : Meaning → Settings → Part → ℕ → Bool
+in_part m s Portfolio x = in_portfolio m x
+in_part m s Common x = is_common m s x
+in_part m s Own x = is_own m s x
+in_part m s (FlatAt q) x = at_rate m q x

@@ -29,6 +29,11 @@ abbrev pub last_key : Option ℕ → (ℕ → Bool) → Option ℕ
 last_key None again = None
 last_key (Some q) again = cond (again q) None (Some q)
 
+-- a key, if it passes a test
+abbrev pub only : (ℕ → Bool) → Option ℕ → Option ℕ
+only p None = None
+only p (Some x) = cond (p x) (Some x) None
+
 abbrev pub onto : Option ℕ → List ℕ → List ℕ
 onto None l = l
 onto (Some q) l = q ∷ l

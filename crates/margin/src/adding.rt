@@ -8,6 +8,7 @@ ghost use Rattle.margin.specs.Adding.{with_products};
 const RETURN_UNITS: i64 = 100_000_000;
 
 // Hundred-millionths of a dollar as dollars, rounded off.
+// Kept: each return of each position comes here, and over any unit, as in `figures::round_off`, it would divide 128 bits.
 fn dollars(n: i64) -> i64
     requires { unsigned_abs n ≤ 8000000000000000000 }
     ensures value { result ≡ round_off (10 ^ 8) n }
@@ -38,6 +39,7 @@ pub(crate) fn add(totals: &mut [i64], row: &[i32], value: i64)
     requires room { length row.now ≤ length totals.old }
     ensures { totals.new ≡ with_products value row.now totals.old }
 {
+    // Kept: over `totals.iter_mut().zip(row)` a proof knows nothing of what the loop wrote, as of each adapter of `iter_mut`.
     for (i, ret) in row.iter().enumerate() {
         totals[i] += rounded_product(value, *ret);
     }

@@ -1,10 +1,9 @@
 // The assessment of a table's places: the questions in their order, the figures, and what the sheets are left with.
-ghost use Rattle.std.specs.Prelude.{◌≡◌, ℕ, ◌≤◌, true, length, take, replicate, pos, unsigned_abs};
-ghost use Rattle.amounts.specs.Sums.{sum_of};
-ghost use Rattle.ledger.specs.declared.terms.Kind.{Kind};
+// Kept: the three lent sheets stay parameters of their own: in a struct two of them cannot be lent at once ("a call keeps the loan of a slice in a field while another field is used").
+ghost use Rattle.std.specs.Prelude.{◌≡◌, ◌≤◌, true, length, take, replicate, pos, unsigned_abs};
 ghost use Rattle.ledger.specs.Settings.{settings_in_range};
 ghost use Rattle.ledger.specs.Table.{sound};
-ghost use Rattle.margin_rules.specs.Positions.{all_stocks, market_in, book};
+ghost use Rattle.margin_rules.specs.Positions.{all_stocks, book};
 ghost use Rattle.margin_rules.specs.Charges.{all_rates};
 ghost use Rattle.margin_rules.specs.Requirement.{figures_of};
 ghost use Rattle.margin_rules.specs.Answers.{fits, unless_large, assessment, sheet_after, list_after, no_outcome};
@@ -12,15 +11,8 @@ ghost use Rattle.margin_rules.specs.declared.terms.Room.{Room};
 ghost use Rattle.margin.specs.Groups.{TotalsFit, RowFits, TailFits};
 ghost use Rattle.margin.specs.Assessing.{room_of};
 
-use crate::counting::portfolio_positions;
-use crate::covered::first_uncovered;
-use crate::entitlements::corporate_margin;
-use crate::flats::flat_margin;
-use crate::gross::gross_of;
-use crate::listing::list_holdings;
-use crate::portfolio::portfolio_margin;
-use crate::positions::mark_of;
-use crate::requirement::{Margins, figures_on};
+use crate::account::{Account, Assessable};
+use crate::requirement::Margins;
 use ledger::{Place, Settings};
 use margin_rules::{Assessment, AssessmentRefusal, Holding, Outcome, Room};
 use return_source::ReturnSource;
@@ -61,58 +53,51 @@ fn clear(totals: &mut [i64], row: &mut [i32], tail: &mut [Outcome])
     });
 }
 
-// The figures, or that portfolio and flat-rate margin together are too large.
-fn figures<S: ReturnSource>(
-    slots: &[Place],
-    settings: &Settings,
-    source: &S,
-    totals: &mut [i64],
-    row: &mut [i32],
-    tail: &mut [Outcome],
-) -> Result<Assessment, AssessmentRefusal>
-    requires few { length slots.now ≤ 4096 }
-    requires sound { sound slots.now ≡ true }
-    requires settings { settings_in_range settings.now ≡ true }
-    requires small { (k : Kind) (x : ℕ) → unsigned_abs (sum_of (market_in k x) slots.now) ≤ 20000000000 }
-    requires totals { TotalsFit (S.meaning source.now) (length totals.old) }
-    requires row { RowFits (S.meaning source.now) (length row.old) }
-    requires tail { TailFits (S.meaning source.now) (length tail.old) }
-    ensures { result ≡ unless_large (figures_of (S.meaning source.now) settings.now all_stocks all_rates (book slots.now)) }
-{
-    let portfolio = portfolio_margin(slots, settings, source, totals, row, tail);
-    let flat_rate = flat_margin(slots, source, settings);
-    if portfolio + flat_rate > MOST_MARGIN {
-        return Err(AssessmentRefusal::Margin);
+impl<S: ReturnSource> Assessable<'_, S> {
+    // The figures, or that portfolio and flat-rate margin together are too large.
+    fn figures(
+        &self,
+        totals: &mut [i64],
+        row: &mut [i32],
+        tail: &mut [Outcome],
+    ) -> Result<Assessment, AssessmentRefusal>
+        requires totals { TotalsFit (S.meaning self.now.source.now) (length totals.old) }
+        requires row { RowFits (S.meaning self.now.source.now) (length row.old) }
+        requires tail { TailFits (S.meaning self.now.source.now) (length tail.old) }
+        ensures { result ≡ unless_large (figures_of (S.meaning self.now.source.now) self.now.account.settings.now all_stocks all_rates (book self.now.account.places.now)) }
+    {
+        let portfolio = self.portfolio_margin(totals, row, tail);
+        let flat_rate = self.flat_margin();
+        if portfolio + flat_rate > MOST_MARGIN {
+            return Err(AssessmentRefusal::Margin);
+        }
+        let account = self.account;
+        let corporate_action = self.corporate_margin();
+        let positions = self.portfolio_positions();
+        let mark = account.mark();
+        let margins = Margins {
+            portfolio,
+            flat_rate,
+            corporate_action,
+        };
+        Ok(account.figures_on(self.source.parameters(), margins, mark, positions))
     }
-    let corporate_action = corporate_margin(slots, source);
-    let positions = portfolio_positions(slots, source);
-    let mark = mark_of(slots);
-    let margins = Margins {
-        portfolio,
-        flat_rate,
-        corporate_action,
-    };
-    Ok(figures_on(source.parameters(), settings, margins, mark, positions))
 }
 
 // The assessment of the places used.
 fn assess_places<S: ReturnSource>(
-    slots: &[Place],
-    settings: &Settings,
+    account: &Account<'_>,
     source: &S,
     totals: &mut [i64],
     row: &mut [i32],
     tail: &mut [Outcome],
     holdings: &mut [Holding],
 ) -> Result<Assessment, AssessmentRefusal>
-    requires few { length slots.now ≤ 4096 }
-    requires sound { sound slots.now ≡ true }
-    requires settings { settings_in_range settings.now ≡ true }
-    ensures answer { result ≡ assessment (S.meaning source.now) settings.now (book slots.now) (room_of (length totals.old) (length row.old) (length tail.old) (length holdings.old)) }
+    ensures answer { result ≡ assessment (S.meaning source.now) account.now.settings.now (book account.now.places.now) (room_of (length totals.old) (length row.old) (length tail.old) (length holdings.old)) }
     ensures totals { totals.new ≡ sheet_after result (pos 0) totals.old }
     ensures row { row.new ≡ sheet_after result (pos 0) row.old }
     ensures tail { tail.new ≡ sheet_after result no_outcome tail.old }
-    ensures holdings { holdings.new ≡ list_after result (book slots.now) holdings.old }
+    ensures holdings { holdings.new ≡ list_after result (book account.now.places.now) holdings.old }
 {
     let room = Room {
         totals: totals.len(),
@@ -123,19 +108,23 @@ fn assess_places<S: ReturnSource>(
     if !has_room(source, room) {
         return Err(AssessmentRefusal::Sheets);
     }
-    if let Some(instrument) = first_uncovered(slots, source) {
+    if let Some(instrument) = account.first_uncovered(source) {
         return Err(AssessmentRefusal::Uncovered {
             kind: instrument.kind,
             stock: instrument.stock,
         });
     }
-    if gross_of(slots) > MOST_GROSS {
+    if account.gross() > MOST_GROSS {
         return Err(AssessmentRefusal::GrossMarketValue);
     }
-    let answer = figures(slots, settings, source, totals, row, tail);
+    let assessable = Assessable {
+        account: *account,
+        source,
+    };
+    let answer = assessable.figures(totals, row, tail);
     clear(totals, row, tail);
     if answer.is_ok() {
-        list_holdings(slots, holdings);
+        account.list_holdings(holdings);
     }
     answer
 }
@@ -161,13 +150,9 @@ pub(crate) fn assess_front<S: ReturnSource>(
     ensures tail { tail.new ≡ sheet_after result no_outcome tail.old }
     ensures holdings { holdings.new ≡ list_after result (book (take used table.now)) holdings.old }
 {
-    assess_places(
-        &table[0..used],
+    let account = Account {
+        places: &table[0..used],
         settings,
-        source,
-        totals,
-        row,
-        tail,
-        holdings,
-    )
+    };
+    assess_places(&account, source, totals, row, tail, holdings)
 }

@@ -1,33 +1,17 @@
 // How many positions stand in the portfolio tier.
-ghost use Rattle.std.specs.Prelude.{◌≡◌, ◌≤◌, true, length};
-ghost use Rattle.ledger.specs.Table.{sound};
+ghost use Rattle.std.specs.Prelude.{◌≡◌};
 ghost use Rattle.margin_rules.specs.Positions.{all_stocks, held_in, any_place};
-ghost use Rattle.margin_rules.specs.Portfolio.{in_portfolio};
 ghost use Rattle.margin_rules.specs.Requirement.{portfolio_positions};
 
-use crate::sides::is_portfolio;
-use crate::visits::last_stock;
-use ledger::{Kind, Place};
+use crate::account::Assessable;
+use crate::parts::Part;
 use return_source::ReturnSource;
 
-// Does a stock stand in the portfolio tier?
-pub(crate) fn in_portfolio<S: ReturnSource>(source: &S, stock: u32) -> bool
-    ensures { result ≡ in_portfolio (S.meaning source.now) stock }
-{
-    is_portfolio(source.tier(stock))
-}
-
-// The positions in the portfolio tier.
-pub(crate) fn portfolio_positions<S: ReturnSource>(slots: &[Place], source: &S) -> u32
-    requires few { length slots.now ≤ 4096 }
-    requires sound { sound slots.now ≡ true }
-    ensures { result ≡ portfolio_positions (S.meaning source.now) all_stocks (λ k x. any_place (held_in k x) slots.now) }
-{
-    let mut positions = 0;
-    for i in 0..slots.len() {
-        if let Some(stock) = last_stock(slots, Kind::Stock, i) {
-            positions += u32::from(in_portfolio(source, stock));
-        }
+impl<S: ReturnSource> Assessable<'_, S> {
+    // The positions in the portfolio tier.
+    pub(crate) fn portfolio_positions(&self) -> u32
+        ensures { result ≡ portfolio_positions (S.meaning self.now.source.now) all_stocks (λ k x. any_place (held_in k x) self.now.account.places.now) }
+    {
+        self.visits_in(Part::Portfolio).count() as u32
     }
-    positions
 }

@@ -1,79 +1,46 @@
 // Which held instruments a return source tells nothing of.
-ghost use Rattle.std.specs.Prelude.{◌≡◌, true, not, ◌&&◌};
-ghost use Rattle.ledger.specs.Table.{sound};
+ghost use Rattle.std.specs.Prelude.{◌≡◌, not, min, filter};
+ghost use Rattle.std.specs.List.{filter_map, reduce};
 ghost use Rattle.margin_rules.specs.Positions.{all_stocks, held_in, any_place};
-ghost use Rattle.margin_rules.specs.Answers.{is_covered, first_of, uncovered_of};
+ghost use Rattle.margin_rules.specs.Answers.{is_covered, uncovered_of};
 ghost use Rattle.margin.specs.Visits.{stock_in};
-ghost use Rattle.margin.specs.Lowest.{lower_of, lower_with};
 
+use crate::account::Account;
+use crate::entitlements::entitlement_type;
 use crate::gross::KINDS;
 use crate::visits::stock_of;
-use ledger::{Instrument, Kind, Place};
-use return_source::{EntitlementType, ReturnSource, covers};
+use ledger::{Instrument, Kind};
+use return_source::{ReturnSource, covers};
 
 // Has an instrument a tier, or an entitlement of its kind?
+#[tactic(auto, using(crate::proofs::EntitlementLaws::covered_is))]
 fn is_covered<S: ReturnSource>(source: &S, kind: Kind, stock: u32) -> bool
     ensures { result ≡ is_covered (S.meaning source.now) kind stock }
 {
-    let entitlement = match kind {
-        Kind::Stock => None,
-        Kind::Dsp => Some(EntitlementType::Dsp),
-        Kind::Sri => Some(EntitlementType::Sri),
-        Kind::Div => Some(EntitlementType::Div),
-    };
-    covers(source, stock, entitlement)
+    covers(source, stock, entitlement_type(kind))
 }
 
-// The lower of a stock and another, if there is one.
-fn lower_of(stock: u32, other: Option<u32>) -> u32
-    ensures { result ≡ lower_of stock other }
-{
-    match other {
-        Some(other) => stock.min(other),
-        None => stock,
+impl Account<'_> {
+    // The lowest stock of a kind that is held and not covered.
+    fn lowest_uncovered<S: ReturnSource>(&self, source: &S, kind: Kind) -> Option<u32>
+        ensures { result ≡ reduce min (filter (λ x. not (is_covered (S.meaning source.now) kind x)) (filter_map (stock_in kind) self.now.places.now)) }
+    {
+        self.places
+            .iter()
+            .filter_map(|place| stock_of(place, kind))
+            .filter(|stock| !is_covered(source, kind, *stock))
+            .min()
     }
-}
 
-// The lowest uncovered stock so far, once one more place is seen.
-fn lower_with<S: ReturnSource>(
-    source: &S,
-    kind: Kind,
-    place: &Place,
-    lowest: Option<u32>,
-) -> Option<u32>
-    ensures { result ≡ lower_with (λ x. not (is_covered (S.meaning source.now) kind x)) (stock_in kind place.now) lowest }
-{
-    let Some(stock) = stock_of(place, kind) else {
-        return lowest;
-    };
-    if is_covered(source, kind, stock) {
-        lowest
-    } else {
-        Some(lower_of(stock, lowest))
-    }
-}
-
-// The lowest stock of a kind that is held and not covered.
-fn lowest_uncovered<S: ReturnSource>(slots: &[Place], source: &S, kind: Kind) -> Option<u32>
-    requires { sound slots.now ≡ true }
-    ensures { result ≡ first_of (λ x. any_place (held_in kind x) slots.now && not (is_covered (S.meaning source.now) kind x)) all_stocks }
-{
-    let mut lowest = None;
-    for place in slots {
-        lowest = lower_with(source, kind, place, lowest);
-    }
-    lowest
-}
-
-// The instrument of the lowest kind, then of the lowest stock, that is held and not covered.
-pub(crate) fn first_uncovered<S: ReturnSource>(slots: &[Place], source: &S) -> Option<Instrument>
-    requires { sound slots.now ≡ true }
-    ensures { result ≡ uncovered_of (S.meaning source.now) all_stocks (λ k x. any_place (held_in k x) slots.now) }
-{
-    for kind in KINDS {
-        if let Some(stock) = lowest_uncovered(slots, source, kind) {
-            return Some(Instrument { kind, stock });
+    // The instrument of the lowest kind, then of the lowest stock, that is held and not covered.
+    pub(crate) fn first_uncovered<S: ReturnSource>(&self, source: &S) -> Option<Instrument>
+        ensures { result ≡ uncovered_of (S.meaning source.now) all_stocks (λ k x. any_place (held_in k x) self.now.places.now) }
+    {
+        for kind in KINDS {
+            if let Some(stock) = self.lowest_uncovered(source, kind) {
+                return Some(Instrument { kind, stock });
+            }
         }
+        None
     }
-    None
 }

@@ -47,10 +47,7 @@ impl OpenAccount<'_> {
 fn as_day(answer: Result<Assessment, AssessmentRefusal>) -> Result<Assessment, DayRefusal>
     ensures { result ≡ as_assessing answer }
 {
-    match answer {
-        Ok(assessment) => Ok(assessment),
-        Err(refusal) => Err(DayRefusal::Assessing(refusal)),
-    }
+    Ok(answer?)
 }
 
 // Opens an account, serves the requests one after the other, and assesses it once more. The table then holds the places
@@ -70,9 +67,7 @@ pub fn day<S: ReturnSource>(
     ensures table { TableAtEnd (opening_answer (length table.old) settings) (runs (length table.old) (calls_of requests.now) []) table.old table.new }
     ensures laws { AccountLaws }
 {
-    if let Err(refusal) = check_open(table, &settings) {
-        return Err(DayRefusal::Opening(refusal));
-    }
+    check_open(table, &settings)?;
     let mut account = open(table, settings);
     for request in requests {
         account.serve(*request, source, totals, row, tail, holdings);

@@ -1,36 +1,37 @@
 // Corporate-action margin: each entitlement at the percentage of its side.
-ghost use Rattle.std.specs.Prelude.{◌≡◌, ℕ, ◌+◌, ◌<◌, ◌≤◌, true, length, drop, slice_index_or, unsigned_abs};
+ghost use Rattle.std.specs.Prelude.{◌≡◌, ◌≤◌, unsigned_abs};
 ghost use Rattle.std.specs.Option.{option_map};
 ghost use Rattle.amounts.specs.Sums.{sum_of};
 ghost use Rattle.amounts.specs.Charges.{sided};
 ghost use Rattle.return_source.specs.Meaning.{numbers_of};
-ghost use Rattle.ledger.specs.declared.terms.Kind.{Kind};
-ghost use Rattle.ledger.specs.Table.{sound};
 ghost use Rattle.margin_rules.specs.Positions.{market_in, all_stocks};
 ghost use Rattle.margin_rules.specs.Charges.{entitlement_of, corporate_of, corporate_margin};
-ghost use Rattle.margin.specs.Visits.{stock_in, any_key, last_key};
-ghost use Rattle.margin.specs.Costs.{charged_at, cost_of};
+ghost use Rattle.margin.specs.Costs.{charged_at};
+ghost use Rattle.margin.specs.EntitlementTypes.{entitlement_type};
 
+use crate::account::Assessable;
 use crate::figures::round_off;
-use crate::positions::market_of;
-use crate::visits::last_stock;
-use ledger::{Kind, Place};
+use ledger::Kind;
 use return_source::{EntitlementType, ReturnSource};
 
-// The price, and the short and the long percentage, of the entitlement that an instrument is.
-pub(crate) fn entitlement_of<S: ReturnSource>(
-    source: &S,
-    kind: Kind,
-    stock: u32,
-) -> Option<(u32, (u32, u32))>
-    ensures { result ≡ option_map numbers_of (entitlement_of (S.meaning source.now) kind stock) }
+// The type of entitlement that a kind is, if it is one.
+pub(crate) fn entitlement_type(kind: Kind) -> Option<EntitlementType>
+    ensures { result ≡ entitlement_type kind }
 {
     match kind {
         Kind::Stock => None,
-        Kind::Dsp => source.entitlement(EntitlementType::Dsp, stock),
-        Kind::Sri => source.entitlement(EntitlementType::Sri, stock),
-        Kind::Div => source.entitlement(EntitlementType::Div, stock),
+        Kind::Dsp => Some(EntitlementType::Dsp),
+        Kind::Sri => Some(EntitlementType::Sri),
+        Kind::Div => Some(EntitlementType::Div),
     }
+}
+
+// The price, and the short and the long percentage, of the entitlement that an instrument is.
+#[tactic(auto, using(crate::proofs::EntitlementLaws::of_no_type, crate::proofs::EntitlementLaws::of_type))]
+fn entitlement_of<S: ReturnSource>(source: &S, kind: Kind, stock: u32) -> Option<(u32, (u32, u32))>
+    ensures { result ≡ option_map numbers_of (entitlement_of (S.meaning source.now) kind stock) }
+{
+    source.entitlement(entitlement_type(kind)?, stock)
 }
 
 // A market value at the percentage of its side, in ten-thousandths of a dollar.
@@ -60,59 +61,36 @@ fn charge_of<S: ReturnSource>(source: &S, kind: Kind, stock: u32, value: i64) ->
     }
 }
 
-// What the place at i adds: the charge of its position, at the last of its live entries.
-fn cost_at<S: ReturnSource>(slots: &[Place], i: usize, source: &S, kind: Kind) -> i64
-    requires at { i < length slots.now }
-    requires few { length slots.now ≤ 4096 }
-    requires sound { sound slots.now ≡ true }
-    requires small { (k : Kind) (x : ℕ) → unsigned_abs (sum_of (market_in k x) slots.now) ≤ 20000000000 }
-    ensures value { result ≡ cost_of (S.meaning source.now) kind (λ x. sum_of (market_in kind x) slots.now) (last_key (stock_in kind (slice_index_or slots.now i Place.Free)) (λ q. any_key (stock_in kind) q (drop (i + 1) slots.now))) }
-    ensures bound { unsigned_abs result ≤ 800000000000000 }
-{
-    match last_stock(slots, kind, i) {
-        None => 0,
-        Some(stock) => charge_of(source, kind, stock, market_of(slots, kind, stock)),
-    }
-}
-
-// What all positions of one kind cost, over 10^4.
-fn kind_cost<S: ReturnSource>(slots: &[Place], source: &S, kind: Kind) -> i128
-    requires few { length slots.now ≤ 4096 }
-    requires sound { sound slots.now ≡ true }
-    requires small { (k : Kind) (x : ℕ) → unsigned_abs (sum_of (market_in k x) slots.now) ≤ 20000000000 }
-    ensures value { result ≡ sum_of (λ x. charged_at (entitlement_of (S.meaning source.now) kind x) (sum_of (market_in kind x) slots.now)) all_stocks }
-    ensures bound { unsigned_abs result ≤ 3276800000000000000 }
-{
-    let mut sum: i128 = 0;
-    for i in 0..slots.len() {
-        sum += i128::from(cost_at(slots, i, source, kind));
-    }
-    sum
-}
-
-// What all entitlements cost, over 10^4.
-fn corporate_sum<S: ReturnSource>(slots: &[Place], source: &S) -> i128
-    requires few { length slots.now ≤ 4096 }
-    requires sound { sound slots.now ≡ true }
-    requires small { (k : Kind) (x : ℕ) → unsigned_abs (sum_of (market_in k x) slots.now) ≤ 20000000000 }
-    ensures value { result ≡ corporate_of (S.meaning source.now) all_stocks (λ k x. sum_of (market_in k x) slots.now) }
-    ensures bound { unsigned_abs result ≤ 9830400000000000000 }
-{
-    kind_cost(slots, source, Kind::Dsp)
-        + kind_cost(slots, source, Kind::Sri)
-        + kind_cost(slots, source, Kind::Div)
-}
-
 // The unit of a percentage.
 const PERCENTAGE_UNITS: u64 = 10_000;
 
-// Corporate-action margin, in whole dollars.
-pub(crate) fn corporate_margin<S: ReturnSource>(slots: &[Place], source: &S) -> i64
-    requires few { length slots.now ≤ 4096 }
-    requires sound { sound slots.now ≡ true }
-    requires small { (k : Kind) (x : ℕ) → unsigned_abs (sum_of (market_in k x) slots.now) ≤ 20000000000 }
-    ensures value { result ≡ corporate_margin (S.meaning source.now) all_stocks (λ k x. sum_of (market_in k x) slots.now) }
-    ensures bound { unsigned_abs result ≤ 983040000000000 }
-{
-    round_off(corporate_sum(slots, source), PERCENTAGE_UNITS) as i64
+impl<S: ReturnSource> Assessable<'_, S> {
+    // What all positions of one kind cost, over 10^4.
+    fn kind_cost(&self, kind: Kind) -> i128
+        ensures value { result ≡ sum_of (λ x. charged_at (entitlement_of (S.meaning self.now.source.now) kind x) (sum_of (market_in kind x) self.now.account.places.now)) all_stocks }
+        ensures bound { unsigned_abs result ≤ 3276800000000000000 }
+    {
+        let mut sum: i128 = 0;
+        for stock in self.account.visits(kind) {
+            let value = self.market_of(kind, stock);
+            sum += i128::from(charge_of(self.source, kind, stock, value));
+        }
+        sum
+    }
+
+    // What all entitlements cost, over 10^4.
+    fn corporate_sum(&self) -> i128
+        ensures value { result ≡ corporate_of (S.meaning self.now.source.now) all_stocks (λ k x. sum_of (market_in k x) self.now.account.places.now) }
+        ensures bound { unsigned_abs result ≤ 9830400000000000000 }
+    {
+        self.kind_cost(Kind::Dsp) + self.kind_cost(Kind::Sri) + self.kind_cost(Kind::Div)
+    }
+
+    // Corporate-action margin, in whole dollars.
+    pub(crate) fn corporate_margin(&self) -> i64
+        ensures value { result ≡ corporate_margin (S.meaning self.now.source.now) all_stocks (λ k x. sum_of (market_in k x) self.now.account.places.now) }
+        ensures bound { unsigned_abs result ≤ 983040000000000 }
+    {
+        round_off(self.corporate_sum(), PERCENTAGE_UNITS) as i64
+    }
 }

@@ -1,51 +1,46 @@
 // Flat-rate margin: the flat stocks of one rate are set off against one another.
-ghost use Rattle.std.specs.Prelude.{◌≡◌, ℕ, ◌+◌, ◌*◌, ◌<◌, ◌≤◌, true, length, drop, pos, ◌*ℤ◌, slice_index_or, unsigned_abs};
-ghost use Rattle.ledger.specs.Table.{sound};
+ghost use Rattle.std.specs.Prelude.{◌≡◌, ◌*◌, ◌≤◌, true, pos, ◌*ℤ◌, unsigned_abs};
 ghost use Rattle.margin_rules.specs.Positions.{all_stocks};
 ghost use Rattle.margin_rules.specs.Charges.{all_rates, flat_of, flat_margin};
 ghost use Rattle.margin.specs.Groups.{stock_market};
-ghost use Rattle.margin.specs.Visits.{rate_in, any_key, last_key};
+ghost use Rattle.margin.specs.Visits.{rate_in};
 
+use crate::account::Assessable;
 use crate::figures::round_off;
-use crate::sides::{Part, is_flat, side};
-use crate::visits::{is_key, stock_of};
-use ledger::{Kind, Place, Settings};
-use return_source::ReturnSource;
+use crate::parts::Part;
+use crate::visits::{Visit, stock_of};
+use ledger::{Kind, Place};
+use return_source::{ReturnSource, Tier};
 
 // The rate of a live entry's stock, where it stands in the flat tier.
 fn rate_of<S: ReturnSource>(place: &Place, source: &S) -> Option<u32>
     ensures { result ≡ rate_in (S.meaning source.now) place.now }
 {
     let stock = stock_of(place, Kind::Stock)?;
-    if is_flat(source.tier(stock)) {
+    if source.tier(stock) == Some(Tier::Flat) {
         source.flat_rate(stock)
     } else {
         None
     }
 }
 
-// Has any live entry's stock this rate?
-fn has_rate<S: ReturnSource>(slots: &[Place], source: &S, rate: u32) -> bool
-    ensures { result ≡ any_key (rate_in (S.meaning source.now)) rate slots.now }
-{
-    for place in slots {
-        if is_key(rate_of(place, source), rate) {
-            return true;
-        }
-    }
-    false
+// Each rate of the flat tier.
+#[derive(Drop)]
+struct FlatRates<'a, S> {
+    source: &'a S,
 }
 
-// The rate of the place at i, if no later place has it.
-fn last_rate<S: ReturnSource>(slots: &[Place], i: usize, source: &S) -> Option<u32>
-    requires { i < length slots.now }
-    ensures { result ≡ last_key (rate_in (S.meaning source.now) (slice_index_or slots.now i Place.Free)) (λ q. any_key (rate_in (S.meaning source.now)) q (drop (i + 1) slots.now)) }
-{
-    let rate = rate_of(&slots[i], source)?;
-    if has_rate(&slots[i + 1..], source, rate) {
-        None
-    } else {
-        Some(rate)
+impl<S: ReturnSource> Visit for FlatRates<'_, S> {
+    ghost key_in = { λ it. rate_in (S.meaning it.source.now) };
+
+    ghost counts = { λ it q. true };
+
+    fn key_in(&self, place: &Place) -> Option<u32> {
+        rate_of(place, self.source)
+    }
+
+    fn counts(&self, _rate: u32) -> bool {
+        true
     }
 }
 
@@ -60,36 +55,31 @@ fn charge(rate: u32, multiplier: u32, side: i64) -> i128
     i128::from(u64::from(rate) * u64::from(multiplier)) * i128::from(side)
 }
 
-// What all sub-categories cost, over 10^6.
-fn flat_sum<S: ReturnSource>(slots: &[Place], source: &S, settings: &Settings) -> i128
-    requires few { length slots.now ≤ 4096 }
-    requires sound { sound slots.now ≡ true }
-    requires small { (x : ℕ) → unsigned_abs (stock_market slots.now x) ≤ 20000000000 }
-    requires multiplier { settings.now.multiplier ≤ 400 }
-    ensures value { result ≡ flat_of (S.meaning source.now) settings.now all_stocks all_rates (stock_market slots.now) }
-    ensures bound { unsigned_abs result ≤ 1342177280000000000000000 }
-{
-    let multiplier = settings.multiplier;
-    let mut sum: i128 = 0;
-    for i in 0..slots.len() {
-        if let Some(rate) = last_rate(slots, i, source) {
-            sum += charge(rate, multiplier, side(slots, source, Part::FlatAt(rate)));
-        }
-    }
-    sum
-}
-
 // The unit of rate times multiplier.
 const CHARGE_UNITS: u64 = 1_000_000;
 
-// Flat-rate margin, in whole dollars.
-pub(crate) fn flat_margin<S: ReturnSource>(slots: &[Place], source: &S, settings: &Settings) -> i64
-    requires few { length slots.now ≤ 4096 }
-    requires sound { sound slots.now ≡ true }
-    requires small { (x : ℕ) → unsigned_abs (stock_market slots.now x) ≤ 20000000000 }
-    requires multiplier { settings.now.multiplier ≤ 400 }
-    ensures value { result ≡ flat_margin (S.meaning source.now) settings.now all_stocks all_rates (stock_market slots.now) }
-    ensures bound { unsigned_abs result ≤ 1342177280000000000 }
-{
-    round_off(flat_sum(slots, source, settings), CHARGE_UNITS) as i64
+impl<S: ReturnSource> Assessable<'_, S> {
+    // What all sub-categories cost, over 10^6.
+    fn flat_sum(&self) -> i128
+        ensures value { result ≡ flat_of (S.meaning self.now.source.now) self.now.account.settings.now all_stocks all_rates (stock_market self.now.account.places.now) }
+        ensures bound { unsigned_abs result ≤ 1342177280000000000000000 }
+    {
+        let multiplier = self.account.settings.multiplier;
+        let mut sum: i128 = 0;
+        let rates = FlatRates {
+            source: self.source,
+        };
+        for rate in self.account.visits(rates) {
+            sum += charge(rate, multiplier, self.side(Part::FlatAt(rate)));
+        }
+        sum
+    }
+
+    // Flat-rate margin, in whole dollars.
+    pub(crate) fn flat_margin(&self) -> i64
+        ensures value { result ≡ flat_margin (S.meaning self.now.source.now) self.now.account.settings.now all_stocks all_rates (stock_market self.now.account.places.now) }
+        ensures bound { unsigned_abs result ≤ 1342177280000000000 }
+    {
+        round_off(self.flat_sum(), CHARGE_UNITS) as i64
+    }
 }

@@ -1,6 +1,7 @@
 // A margin account, and its assessment: from the live entries of a table to the total.
 #![tactic(auto)]
 
+mod account;
 mod adding;
 mod assessing;
 mod closed;
@@ -14,6 +15,7 @@ mod gross;
 mod groups;
 mod listing;
 mod opened;
+mod parts;
 mod portfolio;
 mod positions;
 mod requests;

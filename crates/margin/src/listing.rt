@@ -1,16 +1,14 @@
 // The holdings list: the greatest positions.
-ghost use Rattle.std.specs.Prelude.{◌≡◌, ◌≤◌, true, length, take, drop, fold};
+ghost use Rattle.std.specs.Prelude.{◌≡◌, ◌≤◌, length, take, drop, fold};
 ghost use Rattle.amounts.specs.FirstFew.{keep};
-ghost use Rattle.ledger.specs.Table.{sound};
 ghost use Rattle.margin_rules.specs.Positions.{all_stocks, book};
 ghost use Rattle.margin_rules.specs.Answers.{larger, list_of};
 ghost use Rattle.margin.specs.Listing.{listed};
 
+use crate::account::Account;
 use crate::gross::KINDS;
-use crate::positions::market_of;
-use crate::visits::last_stock;
 use first_few::FirstFew;
-use ledger::{Kind, Place};
+use ledger::Kind;
 use margin_rules::Holding;
 
 const NO_HOLDING: Holding = Holding {
@@ -19,37 +17,32 @@ const NO_HOLDING: Holding = Holding {
     market_value: 0,
 };
 
-// Offers each position of a kind.
-fn offer_kind(list: &mut FirstFew<Holding>, slots: &[Place], kind: Kind)
-    requires few { length slots.now ≤ 4096 }
-    requires sound { sound slots.now ≡ true }
-    ensures kept { take list.new.len list.new.places.now ≡ fold (keep larger (length list.old.places.now)) (take list.old.len list.old.places.now) (listed slots.now kind) }
-    ensures more { list.old.len ≤ list.new.len }
-    ensures spare { drop list.new.len list.new.places.now ≡ drop list.new.len list.old.places.now }
-    ensures room { length list.new.places.now ≡ length list.old.places.now }
-    ensures same { list.new.places.ghost_name ≡ list.old.places.ghost_name }
-{
-    for i in 0..slots.len() {
-        if let Some(stock) = last_stock(slots, kind, i) {
-            let market_value = market_of(slots, kind, stock);
+impl Account<'_> {
+    // Offers each position of a kind.
+    fn offer_kind(&self, list: &mut FirstFew<Holding>, kind: Kind)
+        ensures kept { take list.new.len list.new.places.now ≡ fold (keep larger (length list.old.places.now)) (take list.old.len list.old.places.now) (listed self.now.places.now kind) }
+        ensures more { list.old.len ≤ list.new.len }
+        ensures spare { drop list.new.len list.new.places.now ≡ drop list.new.len list.old.places.now }
+        ensures room { length list.new.places.now ≡ length list.old.places.now }
+        ensures same { list.new.places.ghost_name ≡ list.old.places.ghost_name }
+    {
+        for stock in self.visits(kind) {
             list.offer(Holding {
                 kind,
                 stock,
-                market_value,
+                market_value: self.market_of(kind, stock),
             });
         }
     }
-}
 
-// Lists the greatest positions, as many as there are places; a spare place has stock 0.
-pub(crate) fn list_holdings(slots: &[Place], holdings: &mut [Holding])
-    requires few { length slots.now ≤ 4096 }
-    requires sound { sound slots.now ≡ true }
-    ensures { holdings.new ≡ list_of (length holdings.old) all_stocks (book slots.now) }
-{
-    holdings.fill(NO_HOLDING);
-    let mut list = FirstFew::new(holdings);
-    for kind in KINDS {
-        offer_kind(&mut list, slots, kind);
+    // Lists the greatest positions, as many as there are places; a spare place has stock 0.
+    pub(crate) fn list_holdings(&self, holdings: &mut [Holding])
+        ensures { holdings.new ≡ list_of (length holdings.old) all_stocks (book self.now.places.now) }
+    {
+        holdings.fill(NO_HOLDING);
+        let mut list = FirstFew::new(holdings);
+        for kind in KINDS {
+            self.offer_kind(&mut list, kind);
+        }
     }
 }

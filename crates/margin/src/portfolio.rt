@@ -1,15 +1,12 @@
 // Portfolio margin: the greater of the loss in the tails and the floor.
-ghost use Rattle.std.specs.Prelude.{◌≡◌, ℕ, ◌*◌, ◌<◌, ◌≤◌, true, length, pos, ◌*ℤ◌, unsigned_abs};
-ghost use Rattle.ledger.specs.Settings.{settings_in_range};
-ghost use Rattle.ledger.specs.Table.{sound};
+ghost use Rattle.std.specs.Prelude.{◌≡◌, ◌*◌, ◌<◌, ◌≤◌, length, pos, ◌*ℤ◌, unsigned_abs};
 ghost use Rattle.margin_rules.specs.Positions.{all_stocks};
 ghost use Rattle.margin_rules.specs.Portfolio.{rounded_product, tails_of, both_tails, weighed, portfolio_margin};
 ghost use Rattle.margin.specs.Groups.{stock_market, TotalsFit, RowFits, TailFits};
 
+use crate::account::Assessable;
 use crate::figures::{product, round_off};
-use crate::groups::set_tails;
-use crate::sides::{Part, side};
-use ledger::{Place, Settings};
+use crate::parts::Part;
 use margin_rules::Outcome;
 use return_source::{Parameters, ReturnSource, ScenarioSet};
 
@@ -18,50 +15,6 @@ use return_source::{Parameters, ReturnSource, ScenarioSet};
 pub(crate) struct TailSums {
     pub(crate) historical: i64,
     pub(crate) stress: i64,
-}
-
-// The tail sums of both sets. The stress totals stand right after the historical ones.
-pub(crate) fn tails<S: ReturnSource>(
-    slots: &[Place],
-    settings: &Settings,
-    source: &S,
-    totals: &mut [i64],
-    row: &mut [i32],
-    tail: &mut [Outcome],
-) -> TailSums
-    requires few { length slots.now ≤ 4096 }
-    requires sound { sound slots.now ≡ true }
-    requires small { (x : ℕ) → unsigned_abs (stock_market slots.now x) ≤ 20000000000 }
-    requires totals { TotalsFit (S.meaning source.now) (length totals.old) }
-    requires row { RowFits (S.meaning source.now) (length row.old) }
-    requires tail { TailFits (S.meaning source.now) (length tail.old) }
-    ensures historical { result.historical ≡ tails_of rounded_product (S.meaning source.now) settings.now all_stocks ScenarioSet.Historical (stock_market slots.now) }
-    ensures stress { result.stress ≡ tails_of rounded_product (S.meaning source.now) settings.now all_stocks ScenarioSet.Stress (stock_market slots.now) }
-    ensures historical_bound { unsigned_abs result.historical ≤ 80000000000000000 }
-    ensures stress_bound { unsigned_abs result.stress ≤ 80000000000000000 }
-{
-    let p = source.parameters();
-    let h = p.historical.count as usize;
-    let s = p.stress.count as usize;
-    let historical = set_tails(
-        slots,
-        settings,
-        source,
-        ScenarioSet::Historical,
-        &mut totals[..h],
-        row,
-        &mut tail[..p.historical.tail as usize],
-    );
-    let stress = set_tails(
-        slots,
-        settings,
-        source,
-        ScenarioSet::Stress,
-        &mut totals[h..h + s],
-        row,
-        &mut tail[..p.stress.tail as usize],
-    );
-    TailSums { historical, stress }
 }
 
 // The product of both tail counts.
@@ -107,36 +60,67 @@ fn loss<S: ReturnSource>(source: &S, tails: TailSums) -> i128
     -(h + s)
 }
 
-// The floor, over 10^4 times both tail counts.
-fn floor<S: ReturnSource>(source: &S, settings: &Settings, side: i64) -> i128
-    requires settings { settings_in_range settings.now ≡ true }
-    requires side { unsigned_abs side ≤ 81920000000000 }
-    ensures value { result ≡ pos (settings.now.floor_rate * both_tails (S.meaning source.now)) *ℤ side }
-    ensures bound { unsigned_abs result ≤ (10000 * both_tails (S.meaning source.now)) * 160000000000000000 }
-{
-    product(u64::from(settings.floor_rate) * both_tails(source), side)
-}
+impl<S: ReturnSource> Assessable<'_, S> {
+    // The tail sums of both sets. The stress totals stand right after the historical ones.
+    pub(crate) fn tails(
+        &self,
+        totals: &mut [i64],
+        row: &mut [i32],
+        tail: &mut [Outcome],
+    ) -> TailSums
+        requires totals { TotalsFit (S.meaning self.now.source.now) (length totals.old) }
+        requires row { RowFits (S.meaning self.now.source.now) (length row.old) }
+        requires tail { TailFits (S.meaning self.now.source.now) (length tail.old) }
+        ensures historical { result.historical ≡ tails_of rounded_product (S.meaning self.now.source.now) self.now.account.settings.now all_stocks ScenarioSet.Historical (stock_market self.now.account.places.now) }
+        ensures stress { result.stress ≡ tails_of rounded_product (S.meaning self.now.source.now) self.now.account.settings.now all_stocks ScenarioSet.Stress (stock_market self.now.account.places.now) }
+        ensures historical_bound { unsigned_abs result.historical ≤ 80000000000000000 }
+        ensures stress_bound { unsigned_abs result.stress ≤ 80000000000000000 }
+    {
+        let p = self.source.parameters();
+        let h = p.historical.count as usize;
+        let s = p.stress.count as usize;
+        let historical = self.set_tails(
+            ScenarioSet::Historical,
+            &mut totals[..h],
+            row,
+            &mut tail[..p.historical.tail as usize],
+        );
+        let stress = self.set_tails(
+            ScenarioSet::Stress,
+            &mut totals[h..h + s],
+            row,
+            &mut tail[..p.stress.tail as usize],
+        );
+        TailSums { historical, stress }
+    }
 
-// The margin of the portfolio tier.
-pub(crate) fn portfolio_margin<S: ReturnSource>(
-    slots: &[Place],
-    settings: &Settings,
-    source: &S,
-    totals: &mut [i64],
-    row: &mut [i32],
-    tail: &mut [Outcome],
-) -> i64
-    requires few { length slots.now ≤ 4096 }
-    requires sound { sound slots.now ≡ true }
-    requires settings { settings_in_range settings.now ≡ true }
-    requires small { (x : ℕ) → unsigned_abs (stock_market slots.now x) ≤ 20000000000 }
-    requires totals { TotalsFit (S.meaning source.now) (length totals.old) }
-    requires row { RowFits (S.meaning source.now) (length row.old) }
-    requires tail { TailFits (S.meaning source.now) (length tail.old) }
-    ensures value { result ≡ portfolio_margin (S.meaning source.now) settings.now all_stocks (stock_market slots.now) }
-    ensures bound { unsigned_abs result ≤ 160000000000000000 }
-{
-    let loss = loss(source, tails(slots, settings, source, totals, row, tail));
-    let floor = floor(source, settings, side(slots, source, Part::Portfolio));
-    round_off(loss.max(floor), 10_000 * both_tails(source)) as i64
+    // The floor, over 10^4 times both tail counts.
+    fn floor(&self, side: i64) -> i128
+        requires side { unsigned_abs side ≤ 81920000000000 }
+        ensures value { result ≡ pos (self.now.account.settings.now.floor_rate * both_tails (S.meaning self.now.source.now)) *ℤ side }
+        ensures bound { unsigned_abs result ≤ (10000 * both_tails (S.meaning self.now.source.now)) * 160000000000000000 }
+    {
+        product(
+            u64::from(self.account.settings.floor_rate) * both_tails(self.source),
+            side,
+        )
+    }
+
+    // The margin of the portfolio tier.
+    pub(crate) fn portfolio_margin(
+        &self,
+        totals: &mut [i64],
+        row: &mut [i32],
+        tail: &mut [Outcome],
+    ) -> i64
+        requires totals { TotalsFit (S.meaning self.now.source.now) (length totals.old) }
+        requires row { RowFits (S.meaning self.now.source.now) (length row.old) }
+        requires tail { TailFits (S.meaning self.now.source.now) (length tail.old) }
+        ensures value { result ≡ portfolio_margin (S.meaning self.now.source.now) self.now.account.settings.now all_stocks (stock_market self.now.account.places.now) }
+        ensures bound { unsigned_abs result ≤ 160000000000000000 }
+    {
+        let loss = loss(self.source, self.tails(totals, row, tail));
+        let floor = self.floor(self.side(Part::Portfolio));
+        round_off(loss.max(floor), 10_000 * both_tails(self.source)) as i64
+    }
 }

@@ -1,12 +1,13 @@
 // What is asked of an account in its day, and why a whole day is refused.
 ghost use Rattle.std.specs.Prelude.{◌≡◌};
 ghost use Rattle.margin.specs.DayNumbers.{day_refusal_number};
+ghost use Rattle.margin.specs.declared.requests.DayRefusal.TheVariants.{Opening, Assessing};
 
 use ledger::{OpeningRefusal, Posting};
 use margin_rules::AssessmentRefusal;
 
 // A call upon an open account.
-#[derive(Clone, Copy)]
+#[derive(Clone, Copy, PartialEq, Eq)]
 pub enum Request {
     Post(Posting),
     Cancel(u32),
@@ -14,10 +15,26 @@ pub enum Request {
 }
 
 // Why a day is refused: the account is not opened, or its last assessment is refused.
-#[derive(Clone, Copy)]
+#[derive(Clone, Copy, PartialEq, Eq)]
 pub enum DayRefusal {
     Opening(OpeningRefusal),
     Assessing(AssessmentRefusal),
+}
+
+impl From<OpeningRefusal> for DayRefusal {
+    ghost from_gives = { λ refusal day. day ≡ Opening refusal };
+
+    fn from(refusal: OpeningRefusal) -> DayRefusal {
+        DayRefusal::Opening(refusal)
+    }
+}
+
+impl From<AssessmentRefusal> for DayRefusal {
+    ghost from_gives = { λ refusal day. day ≡ Assessing refusal };
+
+    fn from(refusal: AssessmentRefusal) -> DayRefusal {
+        DayRefusal::Assessing(refusal)
+    }
 }
 
 impl DayRefusal {

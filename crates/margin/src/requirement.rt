@@ -1,11 +1,10 @@
 // From the margins to the total that is called.
-ghost use Rattle.std.specs.Prelude.{◌≡◌, ◌<◌, ◌≤◌, true, pos, ◌+ℤ◌, unsigned_abs};
-ghost use Rattle.ledger.specs.Settings.{settings_in_range};
+ghost use Rattle.std.specs.Prelude.{◌≡◌, ◌<◌, ◌≤◌, pos, ◌+ℤ◌, unsigned_abs};
 ghost use Rattle.margin_rules.specs.Requirement.{given_inside, given_beside};
 ghost use Rattle.margin.specs.Requirement.{figures_on};
 
+use crate::account::Account;
 use crate::figures::{holiday_margin, less, long_of, round_up, short_of};
-use ledger::Settings;
 use margin_rules::Assessment;
 use return_source::Parameters;
 
@@ -15,34 +14,6 @@ pub(crate) struct Margins {
     pub(crate) portfolio: i64,
     pub(crate) flat_rate: i64,
     pub(crate) corporate_action: i64,
-}
-
-// The given amounts that are part of the aggregate.
-fn given_inside(settings: &Settings) -> i64
-    requires { settings_in_range settings.now ≡ true }
-    ensures value { result ≡ pos (given_inside settings.now) }
-    ensures bound { unsigned_abs result ≤ 2000000000000 }
-{
-    (settings.given.liquidation + settings.given.structured_product) as i64
-}
-
-// The given amounts that come on top of it.
-fn given_beside(settings: &Settings) -> i64
-    requires { settings_in_range settings.now ≡ true }
-    ensures value { result ≡ pos (given_beside settings.now) }
-    ensures bound { unsigned_abs result ≤ 3000000000000 }
-{
-    let given = settings.given;
-    (given.position_limit + given.credit_risk + given.ad_hoc) as i64
-}
-
-// The credit.
-fn credit(settings: &Settings) -> i64
-    requires { settings_in_range settings.now ≡ true }
-    ensures value { result ≡ pos settings.now.credit }
-    ensures bound { unsigned_abs result ≤ 1000000000 }
-{
-    settings.credit as i64
 }
 
 // Portfolio and flat-rate margin together.
@@ -77,46 +48,72 @@ fn total(credited: i64, requirement: i64, given: i64) -> i64
     credited + requirement + given
 }
 
-// All figures, from the margins, the mark and the number of positions.
-pub(crate) fn figures_on(
-    p: Parameters,
-    settings: &Settings,
-    margins: Margins,
-    mark: i64,
-    positions: u32,
-) -> Assessment
-    requires factor { p.holiday_factor ≤ 10000000000 }
-    requires some { 0 < p.step }
-    requires few { p.step ≤ 1000000 }
-    requires settings { settings_in_range settings.now ≡ true }
-    requires portfolio { unsigned_abs margins.portfolio ≤ 160000000000000000 }
-    requires flat_rate { unsigned_abs margins.flat_rate ≤ 1342177280000000000 }
-    requires corporate_action { unsigned_abs margins.corporate_action ≤ 983040000000000 }
-    requires mark { unsigned_abs mark ≤ 163840000000000 }
-    ensures { result ≡ figures_on p settings.now margins.portfolio margins.flat_rate margins.corporate_action mark positions }
-{
-    let charged = charged(margins);
-    let holiday = holiday_margin(p.holiday_factor, charged);
-    let given = given_inside(settings);
-    let aggregate = aggregate(charged, margins.corporate_action, holiday, given);
-    let rounded = round_up(p.step, aggregate);
-    let favourable = long_of(mark);
-    let requirement = short_of(mark);
-    let net = less(rounded, favourable);
-    let credited = less(net, credit(settings));
-    let total = total(credited, requirement, given_beside(settings));
-    Assessment {
-        portfolio: margins.portfolio,
-        flat_rate: margins.flat_rate,
-        corporate_action: margins.corporate_action,
-        holiday,
-        aggregate,
-        rounded,
-        favourable,
-        requirement,
-        net,
-        credited,
-        total,
-        positions,
+impl Account<'_> {
+    // The given amounts that are part of the aggregate.
+    fn given_inside(&self) -> i64
+        ensures value { result ≡ pos (given_inside self.now.settings.now) }
+        ensures bound { unsigned_abs result ≤ 2000000000000 }
+    {
+        (self.settings.given.liquidation + self.settings.given.structured_product) as i64
+    }
+
+    // The given amounts that come on top of it.
+    fn given_beside(&self) -> i64
+        ensures value { result ≡ pos (given_beside self.now.settings.now) }
+        ensures bound { unsigned_abs result ≤ 3000000000000 }
+    {
+        let given = self.settings.given;
+        (given.position_limit + given.credit_risk + given.ad_hoc) as i64
+    }
+
+    // The credit.
+    fn credit(&self) -> i64
+        ensures value { result ≡ pos self.now.settings.now.credit }
+        ensures bound { unsigned_abs result ≤ 1000000000 }
+    {
+        self.settings.credit as i64
+    }
+
+    // All figures, from the margins, the mark and the number of positions.
+    pub(crate) fn figures_on(
+        &self,
+        p: Parameters,
+        margins: Margins,
+        mark: i64,
+        positions: u32,
+    ) -> Assessment
+        requires factor { p.holiday_factor ≤ 10000000000 }
+        requires some { 0 < p.step }
+        requires few { p.step ≤ 1000000 }
+        requires portfolio { unsigned_abs margins.portfolio ≤ 160000000000000000 }
+        requires flat_rate { unsigned_abs margins.flat_rate ≤ 1342177280000000000 }
+        requires corporate_action { unsigned_abs margins.corporate_action ≤ 983040000000000 }
+        requires mark { unsigned_abs mark ≤ 163840000000000 }
+        ensures { result ≡ figures_on p self.now.settings.now margins.portfolio margins.flat_rate margins.corporate_action mark positions }
+    {
+        let charged = charged(margins);
+        let holiday = holiday_margin(p.holiday_factor, charged);
+        let given = self.given_inside();
+        let aggregate = aggregate(charged, margins.corporate_action, holiday, given);
+        let rounded = round_up(p.step, aggregate);
+        let favourable = long_of(mark);
+        let requirement = short_of(mark);
+        let net = less(rounded, favourable);
+        let credited = less(net, self.credit());
+        let total = total(credited, requirement, self.given_beside());
+        Assessment {
+            portfolio: margins.portfolio,
+            flat_rate: margins.flat_rate,
+            corporate_action: margins.corporate_action,
+            holiday,
+            aggregate,
+            rounded,
+            favourable,
+            requirement,
+            net,
+            credited,
+            total,
+            positions,
+        }
     }
 }

@@ -1,53 +1,104 @@
-// How an assessment goes over positions: each stock of a kind is visited at the last of the live entries that have it.
-ghost use Rattle.std.specs.Prelude.{◌≡◌, ◌+◌, ◌<◌, length, drop, slice_index_or};
-ghost use Rattle.margin.specs.Visits.{stock_in, is_key, any_key, last_key};
+// How an assessment goes over positions: each key, as a stock of one kind or a flat rate, is visited at the last of the live
+// entries that have it.
+ghost use Rattle.std.specs.Prelude.{◌≡◌, ℕ, Bool, true, List, filter, Option};
+ghost use Rattle.std.specs.List.{list_any};
+ghost use Rattle.ledger.specs.declared.terms.Kind.{Kind};
+ghost use Rattle.ledger.specs.declared.terms.Place.{Place};
+ghost use Rattle.margin.specs.Visits.{stock_in, is_key, any_key, last_key, only, visited};
 
 use ledger::{Kind, Place};
+
+// What is visited: the key of a place, if it has one, and which of the keys are to be visited.
+pub(crate) trait Visit: Drop {
+    ghost key_in: { Self → Place → Option ℕ };
+
+    ghost counts: { Self → ℕ → Bool };
+
+    fn key_in(&self, place: &Place) -> Option<u32>
+        ensures { result ≡ key_in self.now place.now };
+
+    fn counts(&self, key: u32) -> bool
+        ensures { result ≡ counts self.now key };
+}
 
 // The stock of a live entry of a kind.
 pub(crate) fn stock_of(place: &Place, kind: Kind) -> Option<u32>
     ensures { result ≡ stock_in kind place.now }
 {
     match place {
-        Place::Live { number: _, entry } => {
-            if kind.number() == entry.instrument.kind.number() {
-                Some(entry.instrument.stock)
-            } else {
-                None
+        Place::Live { entry, .. } if entry.instrument.kind == kind => {
+            Some(entry.instrument.stock)
+        }
+        _ => None,
+    }
+}
+
+// Each stock of a kind.
+impl Visit for Kind {
+    ghost key_in = { stock_in };
+
+    ghost counts = { λ k x. true };
+
+    fn key_in(&self, place: &Place) -> Option<u32> {
+        stock_of(place, *self)
+    }
+
+    fn counts(&self, _stock: u32) -> bool {
+        true
+    }
+}
+
+// Has a place this key?
+fn has_key<V: Visit>(by: &V, place: &Place, key: u32) -> bool
+    ensures { result ≡ is_key key (V.key_in by.now place.now) }
+{
+    by.key_in(place) == Some(key)
+}
+
+// Has any place this key?
+fn any_has_key<V: Visit>(by: &V, places: &[Place], key: u32) -> bool
+    ensures { result ≡ list_any (λ p. is_key key (V.key_in by.now p)) places.now }
+{
+    places.iter().any(|place| has_key(by, place, key))
+}
+
+// The key of a place, if it is visited there: no later place has it.
+#[tactic(auto, using(crate::proofs::Keys::any_key_is))]
+fn last_key<V: Visit>(by: &V, place: &Place, later: &[Place]) -> Option<u32>
+    ensures { result ≡ only (V.counts by.now) (last_key (V.key_in by.now place.now) (λ q. any_key (V.key_in by.now) q later.now)) }
+{
+    let key = by.key_in(place)?;
+    // Most keys do not count: those are not looked for among the later places.
+    if by.counts(key) && !any_has_key(by, later, key) {
+        Some(key)
+    } else {
+        None
+    }
+}
+
+// The visits of places, one after the other.
+#[derive(Drop)]
+pub(crate) struct Visits<'a, V> {
+    pub(crate) places: &'a [Place],
+    pub(crate) by: V,
+}
+
+impl<V: Visit> Iterator for Visits<'_, V> {
+    ghost use Rattle.std.specs.Iterator.{YieldsFirst, item_count};
+
+    type Item = u32;
+
+    ghost next_gives = { YieldsFirst (λ s. filter (V.counts s.by) (visited (V.key_in s.by) s.places.now)) };
+
+    ghost remaining = { item_count (λ s. filter (V.counts s.by) (visited (V.key_in s.by) s.places.now)) };
+
+    fn next(&mut self) -> Option<u32> {
+        while let Some((place, later)) = self.places.split_first() {
+            self.places = later;
+            if let Some(key) = last_key(&self.by, place, later) {
+                return Some(key);
             }
         }
-        Place::Free | Place::Cancelled { number: _ } => None,
-    }
-}
-
-// Is what was found this key?
-pub(crate) fn is_key(found: Option<u32>, key: u32) -> bool
-    ensures { result ≡ is_key key found }
-{
-    found.is_some_and(|other| key == other)
-}
-
-// Has an instrument a live entry?
-pub(crate) fn is_held(slots: &[Place], kind: Kind, stock: u32) -> bool
-    ensures { result ≡ any_key (stock_in kind) stock slots.now }
-{
-    for place in slots {
-        if is_key(stock_of(place, kind), stock) {
-            return true;
-        }
-    }
-    false
-}
-
-// The stock of a live entry of a kind, if no later live entry is of that instrument.
-pub(crate) fn last_stock(slots: &[Place], kind: Kind, i: usize) -> Option<u32>
-    requires { i < length slots.now }
-    ensures { result ≡ last_key (stock_in kind (slice_index_or slots.now i Place.Free)) (λ q. any_key (stock_in kind) q (drop (i + 1) slots.now)) }
-{
-    let stock = stock_of(&slots[i], kind)?;
-    if is_held(&slots[i + 1..], kind, stock) {
         None
-    } else {
-        Some(stock)
     }
 }

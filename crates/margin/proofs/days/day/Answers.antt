@@ -18,8 +18,8 @@ use Rattle.margin.proofs.days.day.Goals as goal
 abbrev no_request : Request
 no_request = Post (record { number = 0; kind = 0; stock = 0; quantity = pos 0; contract_value = pos 0; market_value = pos 0 })
 
-pub returns-in-Err-clause-laws : goal.returns-in-Err-clause-laws
-returns-in-Err-clause-laws g c = account_laws
+pub returns-in_err-check_open-clause-laws : goal.returns-in_err-check_open-clause-laws
+returns-in_err-check_open-clause-laws g c = account_laws
 
 pub loop-request-init : goal.loop-request-init
 loop-request-init g c =
@@ -82,7 +82,7 @@ returns g c =
     let there : take a.used a.table.now ≡ t = going_run m s' n rs i first a.table.now a.used a.settings h over inv.going ∙ ap (λ j. runs j cs []) size in
     let same : a.settings ≡ s = inv.going.same ∙ o.settings in
     let held : h ≡ left = going_sheets m s' n rs i first a.table.now a.used a.settings h over inv.going ∙ (λ j. sheets_left m (o.settings j) (size j) cs [] first) in
-    let opened : opening_answer cap s ≡ Ok tt = sym c.check_open.ensures ∙ c.in_default.is in
+    let opened : opening_answer cap s ≡ Ok tt = search rules in
     let holds : Holds t cap a.table.now = subst (λ j. Holds (runs j cs []) j a.table.now) size (going_holds m s' n rs i first a.table.now a.used a.settings h over inv.going) in
     let named = inv.named ∙ o.named in
     let answered : c.assess-answer.result ≡ assessment m s (book t) (room_in h) = e.answer ∙ (λ j. assessment m (same j) (book (there j)) (room_in h)) in

@@ -1,7 +1,0 @@
-use Rattle.margin_rules.specs.Positions.{all_kinds}
-use Rattle.margin.proofs.Sums.{SoFar}
-use Rattle.margin.proofs.Sizes.{sizes}
-use Rattle.margin.proofs.gross.gross_of.Given as goal
-
-abbrev pub invariant-loop-kind : goal.invariant-loop-kind
-invariant-loop-kind l = SoFar 335544320000000000 (sizes l.slots) all_kinds l.kind-index l.gross

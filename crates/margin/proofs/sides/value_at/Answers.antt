@@ -1,9 +1,0 @@
-use Rattle.std.proofs.Common.{◌≤◌, nat_abs, sym, subst, ◌∙◌, arith, w64, FitsSigned}
-use Rattle.std.proofs.lemmas.Int.{ints, to_z-of_z}
-use Rattle.margin.proofs.sides.value_at.Goals as goal
-
-pub returns-in-Some-last_stock-clause-bound : goal.returns-in-Some-last_stock-clause-bound
-returns-in-Some-last_stock-clause-bound g c =
-    let r = c.market_of.result in
-    let f : FitsSigned w64 r = omega (arith, ints, c.market_of.ensures.bound) in
-    subst (λ z. nat_abs z ≤ 20000000000) (sym (to_z-of_z w64 r f ∙ c.market_of.ensures.value)) (c.requires.small c.in-Some-last_stock.last)

@@ -34,14 +34,6 @@ impl<'a> Cells<'a> {
         Cells { rest: Some(line) }
     }
 
-    // The next cell, or none where all were given; from then on there is none.
-    pub fn next_cell(&mut self) -> Option<&'a [u8]>
-        ensures cell { MatchOption result (cells_left self.old ≡ []) (λ cell. cells_left self.old ≡ cell.now ∷ cells_left self.new) }
-        ensures end { IfNone result (cells_left self.new ≡ []) }
-    {
-        self.next()
-    }
-
     // The text of the cells that are still to come, if any is.
     pub fn rest(&self) -> Option<&'a [u8]>
         ensures { cells_left self.now ≡ parts_of 44 (option_map (λ x. x.now) result) }
@@ -124,15 +116,6 @@ impl<'a> Lines<'a> {
     {
         let Lines { rest } = *self;
         rest
-    }
-
-    // The next line without its end, or none at the end of the text; from then on there is none.
-    pub fn next_line(&mut self) -> Option<&'a [u8]>
-        ensures line { MatchOption result (text_left self.old ≡ []) (λ line. (line.now ≡ line_of (text_left self.old)) × (text_left self.new ≡ after_line (text_left self.old))) }
-        ensures left { MatchOption result (lines_left self.old ≡ []) (λ line. lines_left self.old ≡ line.now ∷ lines_left self.new) }
-        ensures end { IfNone result (text_left self.new ≡ []) }
-    {
-        self.next()
     }
 }
 

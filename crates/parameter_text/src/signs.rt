@@ -1,7 +1,7 @@
 // Signs: a minus in front of a number, or none.
-ghost use Rattle.std.specs.Prelude.{◌≡◌, ◌<◌};
+ghost use Rattle.std.specs.Prelude.{◌≡◌, ◌^◌, ◌<◌, ◌≤◌};
 ghost use Rattle.parameter_text.specs.Decimals.{signed, minus_in, unsigned_in};
-ghost use Rattle.parameter_text.specs.Signs.{is_minus};
+ghost use Rattle.parameter_text.specs.Signs.{is_minus, farthest};
 
 use super::terms::Sign;
 
@@ -19,7 +19,8 @@ impl Sign {
 
     // A size with this sign. A size of more than 63 bits becomes the greatest or the least number.
     pub fn with(self, size: u64) -> i64
-        ensures { size < 9223372036854775808 → result ≡ signed (is_minus self) size }
+        ensures within { size < 2 ^ 63 → result ≡ signed (is_minus self) size }
+        ensures beyond { 2 ^ 63 ≤ size → result ≡ farthest self }
     {
         match self {
             Sign::Plus => 0i64.saturating_add_unsigned(size),

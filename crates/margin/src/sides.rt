@@ -21,8 +21,8 @@ impl<S: ReturnSource> Assessable<'_, S> {
         let mut short: i64 = 0;
         for stock in self.visits_in(part) {
             let value = self.market_of(Kind::Stock, stock);
-            long += long_of(value);
-            short += short_of(value);
+            long += long_of(value.dollars);
+            short += short_of(value.dollars);
         }
         long.max(short)
     }

@@ -46,9 +46,7 @@ loop-stock-preserved g c =
     let x = c.in-Some.stock in
     let f : ℕ → ℕ → ℤ = λ j x. rounded_product (stock_market xs x) (return_at (m.returns w x) j) in
     let n : length ts ≡ k = c.loop-stock.auto.totals ∙ c.fill.ensures.len ∙ c.requires.count in
-    let v = c.market_of-value.result in
-    let fits : FitsSigned w64 v = omega (arith, ints, c.market_of-value.ensures.bound) in
-    let same : to_z w64 (of_z w64 v) ≡ stock_market xs x = to_z-of_z w64 v fits ∙ c.market_of-value.ensures.value in
+    let same = c.market_of-value.ensures.value in
     so_far_more f k (part_stocks m s Common xs) _ _ x ts c.add_returns.new.totals c.in-Some.ensures.steps n
     (c.add_returns.ensures ∙ ap (λ z. with_returns z (m.returns w x) ts) same)
     (λ j l. product_small (stock_market xs x) (m.returns w x) k j (row_of m law w x) (c.args.self.now.small Stock x)) c.loop-stock.invariant

@@ -1,9 +1,9 @@
-use Rattle.std.proofs.Common.{◌≡◌, ◌≤◌, ◌^◌, get_or, pos, ◌*ℤ◌, nat_abs, ap, ◌∙◌, arith, w32, w64, SFits}
+use Rattle.std.proofs.Common.{◌≡◌, ◌≤◌, ◌^◌, get_or, pos, ◌*ℤ◌, nat_abs, ap, ◌∙◌, arith, w32, SFits}
 use Rattle.std.proofs.ByRecursion.{All-get_or}
 use Rattle.std.proofs.lemmas.List.{take_all}
 use Rattle.std.proofs.lemmas.Int.{ints, to_z-of_z}
 use Rattle.amounts.specs.Rounding.{round_off}
-use Rattle.margin.proofs.Rows.{added, added_is, through, sum_fits, one_more}
+use Rattle.margin.proofs.Rows.{added, added_is, sum_fits, one_more}
 use Rattle.margin.proofs.adding.add.Goals as goal
 
 pub overflow_add-totals : goal.overflow_add-totals

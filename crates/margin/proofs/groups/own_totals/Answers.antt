@@ -1,7 +1,6 @@
-use Rattle.std.proofs.Common.{◌≡◌, length, replicate, pos, ap, ◌∙◌, w64, rules}
-use Rattle.std.proofs.lemmas.Int.{to_z-of_z}
+use Rattle.std.proofs.Common.{◌≡◌, length, replicate, pos, ◌∙◌, rules}
 use Rattle.margin_rules.specs.Portfolio.{scenarios, return_at, rounded_product}
-use Rattle.margin.proofs.Products.{with_returns, product_small, row_of}
+use Rattle.margin.proofs.Products.{product_small, row_of}
 use Rattle.margin.proofs.Passes.{from_zero, figures_small}
 use Rattle.margin.proofs.groups.own_totals.Goals as goal
 

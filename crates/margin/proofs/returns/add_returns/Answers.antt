@@ -1,5 +1,4 @@
-use Rattle.std.proofs.Common.{◌≡◌, take, ap, ◌∙◌, arith, w64}
-use Rattle.std.proofs.lemmas.Int.{to_z-of_z}
+use Rattle.std.proofs.Common.{◌≡◌, take, ap, ◌∙◌, arith}
 use Rattle.margin_rules.specs.Portfolio.{scenarios}
 use Rattle.margin.specs.Adding.{with_products}
 use Rattle.margin.proofs.Products.{row_written, row_none, row_of, products_are, none_added}

@@ -1,6 +1,5 @@
-use Rattle.std.proofs.Common.{◌≡◌, ℕ, ◌^◌, map, length, replicate, ℤ, pos, ap, ◌∙◌, arith, w64, FitsSigned, to_z, of_z, rules}
+use Rattle.std.proofs.Common.{◌≡◌, ℕ, ◌^◌, map, length, replicate, ℤ, pos, ap, ◌∙◌, arith, rules}
 use Rattle.std.specs.List.{range_with_len}
-use Rattle.std.proofs.lemmas.Int.{ints, to_z-of_z}
 use Rattle.ledger.specs.declared.terms.Kind.TheVariants.{Stock}
 use Rattle.margin_rules.specs.Portfolio.{scenarios, return_at, rounded_product, is_common}
 use Rattle.margin.specs.declared.parts.Part.TheVariants.{Common}

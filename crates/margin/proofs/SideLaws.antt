@@ -13,7 +13,7 @@ use Rattle.margin_rules.specs.Positions.{all_stocks, market_in, held_in, any_pla
 use Rattle.margin_rules.specs.Portfolio.{side_of}
 use Rattle.margin.specs.declared.parts.Part.{Part}
 use Rattle.margin.specs.Visits.{stock_in, visited}
-use Rattle.margin.specs.Parts.{in_part}
+use Rattle.margin.specs.Parts.{belongs}
 use Rattle.margin.proofs.Support.{market_none, visited_sum}
 use Rattle.margin.proofs.Visiting.{part_stocks, sum_filter}
 
@@ -33,17 +33,17 @@ module _ (m : Meaning) (s : Settings) (part : Part) (xs : List Place) (fine : so
 
   -- what a stock adds to a side
   abbrev adds : (ℤ → ℤ) → ℕ → ℤ
-  adds g x = when (in_part m s part x) (g (mv x))
+  adds g x = when (belongs m s part x) (g (mv x))
 
   -- a side over what is visited is that over all stocks
   side_all : (g : ℤ → ℤ) → OneSide g → sum_of (λ x. g (mv x)) (part_stocks m s part xs) ≡ sum_of (adds g) all_stocks
-  side_all g z = sum_filter (in_part m s part) (λ x. g (mv x)) (visited (stock_in Stock) xs) ∙ visited_sum Stock xs fine (adds g) (λ x e. go x e (in_part m s part x))
+  side_all g z = sum_filter (belongs m s part) (λ x. g (mv x)) (visited (stock_in Stock) xs) ∙ visited_sum Stock xs fine (adds g) (λ x e. go x e (belongs m s part x))
     where
       go : (x : ℕ) → any_place (held_in Stock x) xs ≡ false → (b : Bool) → when b (g (mv x)) ≡ pos 0
       go x e true = ap g (market_none Stock x xs e) ∙ z.none
       go x e false = refl
 
-  pub sides : (a b : ℤ) → a ≡ sum_of (λ x. long (mv x)) (part_stocks m s part xs) → b ≡ sum_of (λ x. short (mv x)) (part_stocks m s part xs) → int_max a b ≡ side_of all_stocks (in_part m s part) mv
+  pub sides : (a b : ℤ) → a ≡ sum_of (λ x. long (mv x)) (part_stocks m s part xs) → b ≡ sum_of (λ x. short (mv x)) (part_stocks m s part xs) → int_max a b ≡ side_of all_stocks (belongs m s part) mv
   unfolding side_of
   sides a b p q = λ i. int_max ((p ∙ side_all long long_side) i) ((q ∙ side_all short short_side) i)
 

@@ -13,7 +13,7 @@ use Rattle.ledger.specs.declared.terms.Place.{Place}
 use Rattle.ledger.specs.declared.terms.Settings.{Settings}
 use Rattle.margin.specs.declared.parts.Part.{Part}
 use Rattle.margin.specs.Visits.{stock_in, rate_in, any_key, last_key, onto, visited}
-use Rattle.margin.specs.Parts.{in_part}
+use Rattle.margin.specs.Parts.{belongs}
 
 -- the keys that count: each stock of a kind, each stock of a part, each rate of the flat tier
 abbrev pub visits : (ℕ → Bool) → (Place → Option ℕ) → List Place → List ℕ
@@ -23,7 +23,7 @@ abbrev pub stocks : Kind → List Place → List ℕ
 stocks k ps = visits (λ x. true) (stock_in k) ps
 
 abbrev pub part_stocks : Meaning → Settings → Part → List Place → List ℕ
-part_stocks m s part ps = visits (in_part m s part) (stock_in Stock) ps
+part_stocks m s part ps = visits (belongs m s part) (stock_in Stock) ps
 
 abbrev pub flat_rates : Meaning → List Place → List ℕ
 flat_rates m ps = visits (λ x. true) (rate_in m) ps

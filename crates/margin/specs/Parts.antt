@@ -9,8 +9,8 @@ use Rattle.margin_rules.specs.Portfolio.{in_portfolio, is_common, is_own}
 use Rattle.margin_rules.specs.Charges.{at_rate}
 
 -- does a stock belong to a part?
-abbrev pub in_part : Meaning → Settings → Part → ℕ → Bool
-in_part m s Portfolio x = in_portfolio m x
-in_part m s Common x = is_common m s x
-in_part m s Own x = is_own m s x
-in_part m s (FlatAt q) x = at_rate m q x
+abbrev pub belongs : Meaning → Settings → Part → ℕ → Bool
+belongs m s Portfolio x = in_portfolio m x
+belongs m s Common x = is_common m s x
+belongs m s Own x = is_own m s x
+belongs m s (FlatAt q) x = at_rate m q x

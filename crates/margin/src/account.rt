@@ -27,6 +27,13 @@ pub(crate) struct Assessable<'a, S> {
     ghost small: { (k : Kind) (x : ℕ) → unsigned_abs (sum_of (market_in k x) account.places.now) ≤ 20000000000 },
 }
 
+// The market value of a position of such an account, in whole dollars.
+#[derive(Clone, Copy)]
+pub(crate) struct MarketValue {
+    pub(crate) dollars: i64,
+    ghost small: { unsigned_abs dollars ≤ 20000000000 },
+}
+
 impl<'a> Account<'a> {
     // The visits of its places.
     pub(crate) fn visits<V: Visit>(&self, by: V) -> Visits<'a, V>

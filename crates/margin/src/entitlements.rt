@@ -9,7 +9,7 @@ ghost use Rattle.margin_rules.specs.Charges.{entitlement_of, corporate_of, corpo
 ghost use Rattle.margin.specs.Costs.{charged_at};
 ghost use Rattle.margin.specs.EntitlementTypes.{entitlement_type};
 
-use crate::account::Assessable;
+use crate::account::{Assessable, MarketValue};
 use crate::figures::round_off;
 use ledger::Kind;
 use return_source::{EntitlementType, ReturnSource};
@@ -35,24 +35,23 @@ fn entitlement_of<S: ReturnSource>(source: &S, kind: Kind, stock: u32) -> Option
 }
 
 // A market value at the percentage of its side, in ten-thousandths of a dollar.
-fn charge(value: i64, short: u32, long: u32) -> i64
-    requires value { unsigned_abs value ≤ 20000000000 }
+fn charge(value: MarketValue, short: u32, long: u32) -> i64
     requires short { short ≤ 40000 }
     requires long { long ≤ 40000 }
-    ensures value { result ≡ sided long short value }
+    ensures value { result ≡ sided long short value.dollars }
     ensures bound { unsigned_abs result ≤ 800000000000000 }
 {
-    if value > 0 {
-        value * i64::from(long)
+    let dollars = value.dollars;
+    if dollars > 0 {
+        dollars * i64::from(long)
     } else {
-        -value * i64::from(short)
+        -dollars * i64::from(short)
     }
 }
 
 // What a market value costs as an entitlement of an instrument.
-fn charge_of<S: ReturnSource>(source: &S, kind: Kind, stock: u32, value: i64) -> i64
-    requires { unsigned_abs value ≤ 20000000000 }
-    ensures value { result ≡ charged_at (entitlement_of (S.meaning source.now) kind stock) value }
+fn charge_of<S: ReturnSource>(source: &S, kind: Kind, stock: u32, value: MarketValue) -> i64
+    ensures value { result ≡ charged_at (entitlement_of (S.meaning source.now) kind stock) value.dollars }
     ensures bound { unsigned_abs result ≤ 800000000000000 }
 {
     match entitlement_of(source, kind, stock) {

@@ -8,7 +8,7 @@ ghost use Rattle.margin_rules.specs.Positions.{all_stocks};
 ghost use Rattle.margin_rules.specs.Portfolio.{scenarios, rounded_product, is_own, common_totals, own_totals, tails_of};
 ghost use Rattle.margin.specs.Groups.{held_stocks, stock_market};
 
-use crate::account::Assessable;
+use crate::account::{Assessable, MarketValue};
 use crate::parts::Part;
 use crate::returns::add_returns;
 use crate::tails::tail_sum;
@@ -21,14 +21,13 @@ fn own_totals<S: ReturnSource>(
     source: &S,
     set: ScenarioSet,
     stock: u32,
-    value: i64,
+    value: MarketValue,
     totals: &mut [i64],
     row: &mut [i32],
 )
-    requires small { unsigned_abs value ≤ 20000000000 }
     requires count { length totals.old ≡ (scenarios (S.meaning source.now) set).count }
     requires room { length totals.old ≤ length row.old }
-    ensures value { totals.new ≡ own_totals rounded_product (S.meaning source.now) set (λ x. value) stock }
+    ensures value { totals.new ≡ own_totals rounded_product (S.meaning source.now) set (λ x. value.dollars) stock }
     ensures bound { AllByRecursion (λ t. unsigned_abs t ≤ 80000000000) totals.new }
 {
     totals.fill(0);

@@ -3,7 +3,7 @@ ghost use Rattle.std.specs.Prelude.{◌≡◌};
 ghost use Rattle.margin_rules.specs.Portfolio.{in_portfolio};
 ghost use Rattle.margin_rules.specs.Charges.{at_rate};
 ghost use Rattle.margin.specs.Visits.{stock_in};
-ghost use Rattle.margin.specs.Parts.{in_part};
+ghost use Rattle.margin.specs.Parts.{belongs};
 ghost use Rattle.ledger.specs.declared.terms.Kind.TheVariants as kind;
 
 use crate::account::Assessable;
@@ -49,7 +49,7 @@ pub(crate) struct InPart<'a, S> {
 impl<S: ReturnSource> Visit for InPart<'_, S> {
     ghost key_in = { λ it. stock_in kind.Stock };
 
-    ghost counts = { λ it. in_part (S.meaning it.source.now) it.settings.now it.part };
+    ghost counts = { λ it. belongs (S.meaning it.source.now) it.settings.now it.part };
 
     fn key_in(&self, place: &Place) -> Option<u32> {
         stock_of(place, Kind::Stock)

@@ -5,7 +5,7 @@ ghost use Rattle.ledger.specs.Table.{sound_place};
 ghost use Rattle.margin_rules.specs.Positions.{market_in, mark_in};
 ghost use Rattle.margin.specs.Positions.{part, position};
 
-use crate::account::{Account, Assessable};
+use crate::account::{Account, Assessable, MarketValue};
 use ledger::{Instrument, Kind, Place};
 
 // The sums of an instrument's live entries, values in whole dollars.
@@ -90,10 +90,11 @@ impl Account<'_> {
 
 impl<S> Assessable<'_, S> {
     // The market value of a position of an account that can be assessed.
-    pub(crate) fn market_of(&self, kind: Kind, stock: u32) -> i64
-        ensures value { result ≡ sum_of (market_in kind stock) self.now.account.places.now }
-        ensures bound { unsigned_abs result ≤ 20000000000 }
+    pub(crate) fn market_of(&self, kind: Kind, stock: u32) -> MarketValue
+        ensures value { result.dollars ≡ sum_of (market_in kind stock) self.now.account.places.now }
     {
-        self.account.market_of(kind, stock)
+        MarketValue {
+            dollars: self.account.market_of(kind, stock),
+        }
     }
 }

@@ -1,6 +1,5 @@
-use Rattle.std.proofs.Common.{◌≡◌, ℕ, ◌^◌, map, length, replicate, ℤ, pos, ap, ◌∙◌, arith, w64, FitsSigned, to_z, of_z, rules}
+use Rattle.std.proofs.Common.{◌≡◌, ℕ, ◌^◌, map, length, replicate, ℤ, pos, ap, ◌∙◌, arith, rules}
 use Rattle.std.specs.List.{range_with_len}
-use Rattle.std.proofs.lemmas.Int.{ints, to_z-of_z}
 use Rattle.ledger.specs.declared.terms.Kind.TheVariants.{Stock}
 use Rattle.margin_rules.specs.Portfolio.{scenarios, return_at, rounded_product, is_common}
 use Rattle.margin.specs.declared.parts.Part.TheVariants.{Common}
@@ -46,9 +45,7 @@ loop-stock-preserved g c =
     let x = c.in-Some.stock in
     let f : ℕ → ℕ → ℤ = λ j x. rounded_product (stock_market xs x) (return_at (m.returns w x) j) in
     let n : length ts ≡ k = c.loop-stock.auto.totals ∙ c.fill.ensures.len ∙ c.requires.count in
-    let v = c.market_of-value.result in
-    let fits : FitsSigned w64 v = omega (arith, ints, c.market_of-value.ensures.bound) in
-    let same : to_z w64 (of_z w64 v) ≡ stock_market xs x = to_z-of_z w64 v fits ∙ c.market_of-value.ensures.value in
+    let same = c.market_of-value.ensures.value in
     so_far_more f k (part_stocks m s Common xs) _ _ x ts c.add_returns.new.totals c.in-Some.ensures.steps n
     (c.add_returns.ensures ∙ ap (λ z. with_returns z (m.returns w x) ts) same)
     (λ j l. product_small (stock_market xs x) (m.returns w x) k j (row_of m law w x) (c.args.self.now.small Stock x)) c.loop-stock.invariant

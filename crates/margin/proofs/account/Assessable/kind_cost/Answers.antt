@@ -32,15 +32,13 @@ loop-stock-preserved g c =
     let m = g.S.ReturnSource.meaning c.args.self.now.source.now in
     let xs = c.args.self.now.account.places.now in
     let few : length (stocks c.args.kind xs) ≤ 4096 = omega (arith, visits_few (λ x. true) (stock_in c.args.kind) xs, c.args.self.now.account.few) in
-    let v = c.market_of-value.result in
-    let fv : FitsSigned w64 v = omega (arith, ints, c.market_of-value.ensures.bound) in
     let r = c.charge_of.result in
     let bound = c.charge_of.ensures.bound in
     let fr : FitsSigned w64 r = omega (arith, ints, bound) in
     let is : c.from-sum.result ≡ r = c.from-sum.ensures ∙ to_z-of_z w64 r fr in
     let fw : FitsSigned w128 c.from-sum.result = omega (arith, ints, bound, is) in
     visiting_more 800000000000000 (cost m c.args.kind xs) (stocks c.args.kind xs) _ _ c.in-Some.stock _ c.from-sum.result _ c.in-Some.ensures.steps
-    (is ∙ c.charge_of.ensures.value ∙ ap (charged_at (entitlement_of m c.args.kind c.in-Some.stock)) (to_z-of_z w64 v fv ∙ c.market_of-value.ensures.value)) (omega (arith, ints, is, bound))
+    (is ∙ c.charge_of.ensures.value ∙ ap (charged_at (entitlement_of m c.args.kind c.in-Some.stock)) c.market_of-value.ensures.value) (omega (arith, ints, is, bound))
     (through_sum w128 _ c.from-sum.result fw (omega (arith, ints, few, is, bound, c.loop-stock.invariant.size))) c.loop-stock.invariant
 
 pub returns-clause-value : goal.returns-clause-value

@@ -5,7 +5,7 @@ use Rattle.margin_rules.specs.Portfolio.{in_portfolio}
 use Rattle.margin_rules.specs.Requirement.{portfolio_positions}
 use Rattle.margin.specs.declared.parts.Part.TheVariants.{Portfolio}
 use Rattle.margin.specs.Visits.{stock_in}
-use Rattle.margin.specs.Parts.{in_part}
+use Rattle.margin.specs.Parts.{belongs}
 use Rattle.margin.specs.Groups.{held_stocks}
 use Rattle.margin.proofs.Counts.{visited_count}
 use Rattle.margin.proofs.Visiting.{part_stocks, visits_few, count_filter}
@@ -15,7 +15,7 @@ pub count-requires-clause-fits : goal.count-requires-clause-fits
 count-requires-clause-fits g c =
     let it = c.visits_in.result in
     let m = g.S.ReturnSource.meaning it.by.source.now in
-    let few = visits_few (in_part m it.by.settings.now it.by.part) (stock_in Stock) it.places.now in
+    let few = visits_few (belongs m it.by.settings.now it.by.part) (stock_in Stock) it.places.now in
     let k : 0 + length (part_stocks m it.by.settings.now it.by.part it.places.now) < 2 ^ 64 = omega (arith, few, ap length c.visits_in.ensures.places, c.args.self.now.account.few) in
     inl k
 
@@ -23,7 +23,7 @@ pub overflow_cast-result : goal.overflow_cast-result
 overflow_cast-result g c =
     let it = c.visits_in.result in
     let m = g.S.ReturnSource.meaning it.by.source.now in
-    let few = visits_few (in_part m it.by.settings.now it.by.part) (stock_in Stock) it.places.now in
+    let few = visits_few (belongs m it.by.settings.now it.by.part) (stock_in Stock) it.places.now in
     let b : c.count.result ≤ length (part_stocks m it.by.settings.now it.by.part it.places.now) = c.count.ensures.bound in
     omega (arith, few, ap length c.visits_in.ensures.places, c.args.self.now.account.few)
 

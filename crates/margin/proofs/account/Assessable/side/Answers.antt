@@ -3,7 +3,7 @@ use Rattle.std.proofs.lemmas.Int.{ints, to_z-of_z}
 use Rattle.amounts.specs.Charges.{long, short}
 use Rattle.ledger.specs.declared.terms.Kind.TheVariants.{Stock}
 use Rattle.margin.specs.Visits.{stock_in}
-use Rattle.margin.specs.Parts.{in_part}
+use Rattle.margin.specs.Parts.{belongs}
 use Rattle.margin.specs.Groups.{stock_market}
 use Rattle.margin.proofs.Visiting.{part_stocks, visiting_start, visiting_more, visiting_end, visits_few}
 use Rattle.margin.proofs.SideLaws.{sides, max_small}
@@ -33,8 +33,8 @@ overflow_add-long g c =
     let m = g.S.ReturnSource.meaning c.args.self.now.source.now in
     let xs = c.args.self.now.account.places.now in
     let s = c.args.self.now.account.settings.now in
-    let few : length (part_stocks m s c.args.part xs) ≤ 4096 = omega (arith, visits_few (in_part m s c.args.part) (stock_in Stock) xs, c.args.self.now.account.few) in
-    let lb : nat_abs c.long_of-long.result ≤ 20000000000 = omega (arith, c.long_of-long.ensures.bound, size_of c.market_of-value.result c.market_of-value.ensures.bound) in
+    let few : length (part_stocks m s c.args.part xs) ≤ 4096 = omega (arith, visits_few (belongs m s c.args.part) (stock_in Stock) xs, c.args.self.now.account.few) in
+    let lb : nat_abs c.long_of-long.result ≤ 20000000000 = omega (arith, c.long_of-long.ensures.bound, size_of c.market_of-value.result.dollars c.market_of-value.result.small) in
     let fl : FitsSigned w64 c.long_of-long.result = omega (arith, ints, lb) in
     rw (to_z-of_z w64 c.long_of-long.result fl) (omega (arith, ints, few, c.loop-stock.invariant.longs.size, lb))
 
@@ -43,8 +43,8 @@ overflow_add-short g c =
     let m = g.S.ReturnSource.meaning c.args.self.now.source.now in
     let xs = c.args.self.now.account.places.now in
     let s = c.args.self.now.account.settings.now in
-    let few : length (part_stocks m s c.args.part xs) ≤ 4096 = omega (arith, visits_few (in_part m s c.args.part) (stock_in Stock) xs, c.args.self.now.account.few) in
-    let sb : nat_abs c.short_of-short.result ≤ 20000000000 = omega (arith, c.short_of-short.ensures.bound, size_of c.market_of-value.result c.market_of-value.ensures.bound) in
+    let few : length (part_stocks m s c.args.part xs) ≤ 4096 = omega (arith, visits_few (belongs m s c.args.part) (stock_in Stock) xs, c.args.self.now.account.few) in
+    let sb : nat_abs c.short_of-short.result ≤ 20000000000 = omega (arith, c.short_of-short.ensures.bound, size_of c.market_of-value.result.dollars c.market_of-value.result.small) in
     let fs : FitsSigned w64 c.short_of-short.result = omega (arith, ints, sb) in
     rw (to_z-of_z w64 c.short_of-short.result fs) (omega (arith, ints, few, c.loop-stock.invariant.shorts.size, sb))
 
@@ -54,10 +54,10 @@ loop-stock-preserved g c =
     let xs = c.args.self.now.account.places.now in
     let s = c.args.self.now.account.settings.now in
     let all : List ℕ = part_stocks m s c.args.part xs in
-    let few : length all ≤ 4096 = omega (arith, visits_few (in_part m s c.args.part) (stock_in Stock) xs, c.args.self.now.account.few) in
-    let fv : FitsSigned w64 c.market_of-value.result = omega (arith, ints, c.market_of-value.ensures.bound) in
-    let same = to_z-of_z w64 c.market_of-value.result fv ∙ c.market_of-value.ensures.value in
-    let size : nat_abs (to_z w64 (of_z w64 c.market_of-value.result)) ≤ 20000000000 = rw (to_z-of_z w64 c.market_of-value.result fv) c.market_of-value.ensures.bound in
+    let few : length all ≤ 4096 = omega (arith, visits_few (belongs m s c.args.part) (stock_in Stock) xs, c.args.self.now.account.few) in
+    let fv : FitsSigned w64 c.market_of-value.result.dollars = omega (arith, ints, c.market_of-value.result.small) in
+    let same = to_z-of_z w64 c.market_of-value.result.dollars fv ∙ c.market_of-value.ensures.value in
+    let size : nat_abs (to_z w64 (of_z w64 c.market_of-value.result.dollars)) ≤ 20000000000 = rw (to_z-of_z w64 c.market_of-value.result.dollars fv) c.market_of-value.result.small in
     let lb : nat_abs c.long_of-long.result ≤ 20000000000 = omega (arith, c.long_of-long.ensures.bound) in
     let sb : nat_abs c.short_of-short.result ≤ 20000000000 = omega (arith, c.short_of-short.ensures.bound) in
     let fl : FitsSigned w64 c.long_of-long.result = omega (arith, ints, lb) in
@@ -84,7 +84,7 @@ returns-clause-bound g c =
     let m = g.S.ReturnSource.meaning c.args.self.now.source.now in
     let xs = c.args.self.now.account.places.now in
     let s = c.args.self.now.account.settings.now in
-    let few : length (part_stocks m s c.args.part xs) ≤ 4096 = omega (arith, visits_few (in_part m s c.args.part) (stock_in Stock) xs, c.args.self.now.account.few) in
+    let few : length (part_stocks m s c.args.part xs) ≤ 4096 = omega (arith, visits_few (belongs m s c.args.part) (stock_in Stock) xs, c.args.self.now.account.few) in
     let l = c.loop-stock.invariant.longs.size in
     let k = c.loop-stock.invariant.shorts.size in
     let f : FitsSigned w64 c.max.result = search rules in

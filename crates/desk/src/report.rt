@@ -106,6 +106,7 @@ impl fmt::Display for FaultReport<'_> {
 }
 
 // What it means that a question is answered no.
+// Kept: the enum is another crate's, so no impl of Display can be its own, and a type around it would serve one call.
 fn meaning(question: Question) -> &'static str
     ensures { result.now ≡ meaning_of question }
 {

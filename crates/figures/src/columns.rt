@@ -103,6 +103,7 @@ const COUNT_WIDTH: usize = 14;
 const MOST_COUNT_COMMAS: u32 = 3;
 
 // A count at the right of a column of fourteen places, its thousands separated.
+// Kept: the counts of both programs need no width and no commas at each, and the definition of a cell stays closed in their proofs.
 #[derive(Clone, Copy)]
 pub struct CountCell(pub u32);
 

@@ -123,9 +123,8 @@ fn settings(rt: &HostRuntime, path: &str) -> Result<Settings, NotDone> {
 
 // The journals' bytes, each checked whole.
 fn journals(rt: &HostRuntime, names: Journals<'_>) -> Result<Vec<Vec<u8>>, NotDone> {
-    let mut left = names;
     let mut journals = Vec::new(rt.alloc());
-    while let Some(path) = left.next_name() {
+    for path in names {
         let journal = journal(rt, path)?;
         if journals.push(journal).is_err() {
             return Err(no_memory(rt));

@@ -1,9 +1,10 @@
 // The words behind `check_file`: a file, and the options `--csv` and `--help`.
-ghost use Rattle.std.specs.Prelude.{◌≡◌, length, Some};
-ghost use Rattle.std.specs.Option.{option_map};
-ghost use Rattle.std.specs.Str.{bytes_eq};
-ghost use Rattle.desk.specs.Arguments.{dashed, known, is_of, of_kind, first_of, texts, told, request_of, usage_text};
+ghost use Rattle.std.specs.Prelude.{◌≡◌, Some, None, refl};
+ghost use Rattle.desk.specs.declared.arguments.UsageError.TheVariants as UsageError;
+ghost use Rattle.command_line.specs.Items.{items_left};
+ghost use Rattle.desk.specs.Arguments.{kind_of, texts, told, request_of, request_of_items, usage_text};
 
+use command_line::{Items, OptionFault, WordKind};
 use figures::Form;
 use std::fmt;
 
@@ -17,10 +18,17 @@ pub enum Request<'a> {
 // Why the words make no request; a word that begins with a dash is an option.
 #[derive(Clone, Copy)]
 pub enum UsageError<'a> {
-    UnknownOption(&'a str),
-    OptionTwice(&'a str),
+    Options(OptionFault<'a>),
     TwoFiles,
     NoFile,
+}
+
+impl<'a> From<OptionFault<'a>> for UsageError<'a> {
+    ghost from_gives = { λ fault e. e ≡ UsageError.Options fault };
+
+    fn from(fault: OptionFault<'a>) -> UsageError<'a> {
+        UsageError::Options(fault)
+    }
 }
 
 impl fmt::Display for UsageError<'_> {
@@ -28,8 +36,7 @@ impl fmt::Display for UsageError<'_> {
 
     fn fmt<W: fmt::Write>(&self, f: &mut fmt::Formatter<W>) -> fmt::Result {
         match self {
-            UsageError::UnknownOption(option) => write!(f, "unknown option {option}"),
-            UsageError::OptionTwice(option) => write!(f, "{option} is given twice"),
+            UsageError::Options(fault) => write!(f, "{fault}"),
             UsageError::TwoFiles => write!(f, "more than one file is given"),
             UsageError::NoFile => write!(f, "no file is given"),
         }
@@ -37,7 +44,7 @@ impl fmt::Display for UsageError<'_> {
 }
 
 // What one word of the command line is.
-#[derive(Clone, Copy)]
+#[derive(Clone, Copy, PartialEq, Eq)]
 enum Kind {
     Csv,
     Help,
@@ -45,62 +52,28 @@ enum Kind {
     File,
 }
 
-impl Kind {
-    // Whether a word is of this kind.
-    fn holds(self, word: &str) -> bool
-        ensures { result ≡ is_of self word.now }
-    {
-        match self {
-            Kind::Csv => is_text(word, "--csv"),
-            Kind::Help => is_text(word, "--help"),
-            Kind::Unknown => is_option(word) && !is_known(word),
-            Kind::File => !is_option(word),
+impl WordKind for Kind {
+    ghost kind_of = { kind_of };
+
+    ghost lacking = { λ _. None };
+
+    ghost same = { ⟦<Kind as PartialEq>⟧.eq };
+
+    ghost same_is_eq = { λ k j. refl };
+
+    fn of(word: &str) -> Kind {
+        match word {
+            "--csv" => Kind::Csv,
+            "--help" => Kind::Help,
+            _ if word.starts_with('-') => Kind::Unknown,
+            _ => Kind::File,
         }
     }
-}
 
-fn is_text(word: &str, text: &str) -> bool
-    ensures { result ≡ bytes_eq word.now text.now }
-{
-    word == text
-}
-
-fn is_known(word: &str) -> bool
-    ensures { result ≡ known word.now }
-{
-    is_text(word, "--csv") || is_text(word, "--help")
-}
-
-fn is_option(word: &str) -> bool
-    ensures { result ≡ dashed word.now }
-{
-    word.starts_with('-')
-}
-
-// How many words are of a kind.
-fn count(words: &[String], kind: Kind) -> usize
-    ensures { result ≡ length (of_kind kind (texts words.now)) }
-{
-    let mut count = 0;
-    for word in words {
-        if kind.holds(word.as_str()) {
-            count += 1;
-        }
+    // No value stands behind an option.
+    fn lacking(self) -> Option<Kind> {
+        None
     }
-    count
-}
-
-// The first word of a kind.
-fn first<'a>(words: &'a [String], kind: Kind) -> Option<&'a str>
-    ensures { option_map (λ x. x.now) result ≡ first_of (of_kind kind (texts words.now)) }
-{
-    for word in words {
-        let text = word.as_str();
-        if kind.holds(text) {
-            return Some(text);
-        }
-    }
-    None
 }
 
 impl<'a> Request<'a> {
@@ -108,27 +81,25 @@ impl<'a> Request<'a> {
     pub fn from_words(words: &'a [String]) -> Result<Request<'a>, UsageError<'a>>
         ensures { told result ≡ request_of (texts words.now) }
     {
-        if let Some(option) = first(words, Kind::Unknown) {
-            return Err(UsageError::UnknownOption(option));
-        }
-        let csv = count(words, Kind::Csv);
-        if csv > 1 {
-            return Err(UsageError::OptionTwice("--csv"));
-        }
-        let help = count(words, Kind::Help);
-        if help > 1 {
-            return Err(UsageError::OptionTwice("--help"));
-        }
-        if count(words, Kind::File) > 1 {
+        Request::from_items(Items::new(words))
+    }
+
+    fn from_items(items: Items<'a, Kind>) -> Result<Request<'a>, UsageError<'a>>
+        ensures { told result ≡ request_of_items (items_left kind_of (λ _. None) items.entry) }
+    {
+        items.known(Kind::Unknown)?;
+        items.once(Kind::Csv, "--csv")?;
+        items.once(Kind::Help, "--help")?;
+        let csv = items.count_of(Kind::Csv);
+        let help = items.count_of(Kind::Help);
+        if items.count_of(Kind::File) > 1 {
             return Err(UsageError::TwoFiles);
         }
         if help == 1 {
             return Ok(Request::Help);
         }
         let form = if csv == 1 { Form::Csv } else { Form::Report };
-        match first(words, Kind::File) {
-            Some(path) => Ok(Request::Check { form, path }),
-            None => Err(UsageError::NoFile),
-        }
+        let path = items.first_of(Kind::File).ok_or(UsageError::NoFile)?;
+        Ok(Request::Check { form, path })
     }
 }

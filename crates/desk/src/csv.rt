@@ -2,7 +2,7 @@
 ghost use Rattle.std.specs.Prelude.{Some};
 ghost use Rattle.desk.specs.Csv.{fault_line, scenario_lines, stock_lines, summary_lines};
 
-use figures::{FourPlaces, IsoDate, TenPlaces};
+use figures::{Decimal, IsoDate};
 use parameter_file::Summary;
 use parameter_heading::Fault;
 use return_source::Parameters;
@@ -20,7 +20,7 @@ impl fmt::Display for CsvSummary<'_> {
         let parameters = &self.0.heading.parameters;
         let scenarios = CsvScenarios(parameters);
         let step = parameters.step;
-        let factor = TenPlaces(parameters.holiday_factor);
+        let factor = Decimal::<10>(parameters.holiday_factor);
         let stocks = CsvStocks(self.0);
         write!(
             f,
@@ -43,8 +43,8 @@ impl fmt::Display for CsvScenarios<'_> {
     fn fmt<W: fmt::Write>(&self, f: &mut fmt::Formatter<W>) -> fmt::Result {
         let historical = &self.0.historical;
         let stress = &self.0.stress;
-        let historical_weight = FourPlaces(historical.weight.ten_thousandths);
-        let stress_weight = FourPlaces(stress.weight.ten_thousandths);
+        let historical_weight = Decimal::<4>(u64::from(historical.weight.ten_thousandths));
+        let stress_weight = Decimal::<4>(u64::from(stress.weight.ten_thousandths));
         let historical_count = historical.count;
         let stress_count = stress.count;
         let historical_tail = historical.tail;

@@ -2,7 +2,7 @@
 ghost use Rattle.std.specs.Prelude.{◌≡◌, Some};
 ghost use Rattle.desk.specs.Reports.{fault_report, meaning as meaning_of, scenario_rows, stock_rows, summary_report};
 
-use figures::{Column, CountCell, FourPlaces, IsoDate, TenPlaces};
+use figures::{Column, CountCell, Decimal, IsoDate};
 use parameter_file::Summary;
 use parameter_heading::Fault;
 use parameter_text::Question;
@@ -20,17 +20,11 @@ impl fmt::Display for SummaryReport<'_> {
     ghost output = { λ x. Some (summary_report x.0.now) };
 
     fn fmt<W: fmt::Write>(&self, f: &mut fmt::Formatter<W>) -> fmt::Result {
-        let date = Column {
-            width: WIDTH,
-            value: IsoDate(&self.0.heading.date),
-        };
+        let date = Column::<WIDTH, _>(IsoDate(&self.0.heading.date));
         let parameters = &self.0.heading.parameters;
         let scenarios = ScenarioRows(parameters);
         let step = CountCell(parameters.step);
-        let factor = Column {
-            width: WIDTH,
-            value: TenPlaces(parameters.holiday_factor),
-        };
+        let factor = Column::<WIDTH, _>(Decimal::<10>(parameters.holiday_factor));
         let stocks = StockRows(self.0);
         write!(
             f,
@@ -57,14 +51,12 @@ impl fmt::Display for ScenarioRows<'_> {
     fn fmt<W: fmt::Write>(&self, f: &mut fmt::Formatter<W>) -> fmt::Result {
         let historical = &self.0.historical;
         let stress = &self.0.stress;
-        let historical_weight = Column {
-            width: WIDTH,
-            value: FourPlaces(historical.weight.ten_thousandths),
-        };
-        let stress_weight = Column {
-            width: WIDTH,
-            value: FourPlaces(stress.weight.ten_thousandths),
-        };
+        let historical_weight = Column::<WIDTH, _>(Decimal::<4>(u64::from(
+            historical.weight.ten_thousandths,
+        )));
+        let stress_weight = Column::<WIDTH, _>(Decimal::<4>(u64::from(
+            stress.weight.ten_thousandths,
+        )));
         let historical_count = CountCell(historical.count);
         let stress_count = CountCell(stress.count);
         let historical_tail = CountCell(historical.tail);
@@ -114,6 +106,7 @@ impl fmt::Display for FaultReport<'_> {
 }
 
 // What it means that a question is answered no.
+// Kept: the enum is another crate's, so no impl of Display can be its own, and a type around it would serve one call.
 fn meaning(question: Question) -> &'static str
     ensures { result.now ≡ meaning_of question }
 {

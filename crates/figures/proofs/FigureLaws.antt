@@ -1,6 +1,7 @@
 -- A number's text from that of its front and its last digits. Assumes nothing.
-use Rattle.std.proofs.Common.{◌≡◌, ℕ, zero, suc, ◌-◌, ◌/◌, ◌%◌, ◌<◌, ◌≤◌, ◌⊎◌, ◌++◌, codes, decimal, ℤ, pos, negsuc, ◌<ℤ◌, ◌≤ℤ◌, unsigned_abs, refl, inl, inr, sub-one, add-one, arith, rules}
+use Rattle.std.proofs.Common.{◌≡◌, ℕ, zero, suc, ◌-◌, ◌/◌, ◌%◌, ◌^◌, ◌<◌, ◌≤◌, ◌⊎◌, ◌++◌, codes, decimal, ℤ, pos, negsuc, ◌<ℤ◌, ◌≤ℤ◌, unsigned_abs, refl, inl, inr, sub-one, add-one, arith, rules}
 use Rattle.std.proofs.lemmas.Int.{ints}
+use Rattle.std.proofs.Math.Nat.{pow-suc}
 use Rattle.figures.specs.Figures.{padded, separated, dollars}
 
 pub padded_more : (k n : ℕ) → 0 < k → padded (k - 1) (n / 10) ++ decimal (n % 10) ≡ padded k n
@@ -24,3 +25,7 @@ dollars_below (negsuc m) n h e = rw e (rw add-one refl)
 pub dollars_from : (z : ℤ) (n : ℕ) → pos 0 ≤ℤ z → n ≡ unsigned_abs z → separated 6 n ≡ dollars z
 dollars_from (pos m) n h e = rw e refl
 dollars_from (negsuc m) n h e = absurd (omega (arith, ints))
+
+pub ten_pow : (k : ℕ) → 0 < 10 ^ k
+ten_pow zero = omega arith
+ten_pow (suc k) = omega (arith, pow-suc 10 k, ten_pow k)

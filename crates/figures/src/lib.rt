@@ -7,4 +7,4 @@ mod numbers;
 
 pub use columns::{Column, CountCell, Measured};
 pub use form::Form;
-pub use numbers::{Dollars, FourPlaces, IsoDate, Numeral, TenPlaces, Thousands};
+pub use numbers::{Decimal, Dollars, IsoDate, Numeral, Thousands};

@@ -1,5 +1,5 @@
 // Figures as text: with zeros in front, with places after a point, with separated thousands, and dates.
-ghost use Rattle.std.specs.Prelude.{Some, decimal};
+ghost use Rattle.std.specs.Prelude.{◌≡◌, ◌/◌, ◌^◌, Some, decimal};
 ghost use Rattle.std.specs.Fmt.{WritesOnOk};
 ghost use Rattle.figures.specs.Figures.{padded, pointed, separated, dollars, iso_date};
 
@@ -33,35 +33,30 @@ fn put_digits<W: fmt::Write>(f: &mut fmt::Formatter<W>, number: u64, digits: u32
     write!(f, "{last}")
 }
 
-// A decimal in ten-thousandths.
+// A decimal, from its number of units of the last of its places.
 #[derive(Clone, Copy)]
-pub struct FourPlaces(pub u32);
+pub struct Decimal<const PLACES: u32>(pub u64);
 
-impl fmt::Display for FourPlaces {
-    ghost output = { λ x. Some (pointed 4 x.0) };
-
-    fn fmt<W: fmt::Write>(&self, f: &mut fmt::Formatter<W>) -> fmt::Result {
-        let whole = self.0 / 10_000;
-        let part = Padded {
-            number: u64::from(self.0),
-            digits: 4,
-        };
-        write!(f, "{whole}.{part}")
+impl<const PLACES: u32> Decimal<PLACES> {
+    // The part before the point; a unit of a power of ten above all numbers goes into none.
+    pub(crate) fn whole(self) -> u64
+        ensures { result ≡ self.entry.0 / 10 ^ PLACES }
+    {
+        match 10u64.checked_pow(PLACES) {
+            Some(one) => self.0 / one,
+            None => 0,
+        }
     }
 }
 
-// A decimal in ten-billionths.
-#[derive(Clone, Copy)]
-pub struct TenPlaces(pub u64);
-
-impl fmt::Display for TenPlaces {
-    ghost output = { λ x. Some (pointed 10 x.0) };
+impl<const PLACES: u32> fmt::Display for Decimal<PLACES> {
+    ghost output = { λ x. Some (pointed PLACES x.0) };
 
     fn fmt<W: fmt::Write>(&self, f: &mut fmt::Formatter<W>) -> fmt::Result {
-        let whole = self.0 / 10_000_000_000;
+        let whole = self.whole();
         let part = Padded {
             number: self.0,
-            digits: 10,
+            digits: PLACES,
         };
         write!(f, "{whole}.{part}")
     }
@@ -101,18 +96,15 @@ impl fmt::Display for Numeral {
     }
 }
 
-// A number with its thousands separated.
+// A number with its thousands separated, by as many commas as it needs and at most so many.
 #[derive(Clone, Copy)]
-pub struct Thousands(pub u32);
+pub struct Thousands<const COMMAS: u32>(pub u64);
 
-// A number below 2^32 has ten digits at most.
-pub(crate) const MOST_COMMAS: u32 = 3;
-
-impl fmt::Display for Thousands {
-    ghost output = { λ x. Some (separated 3 x.0) };
+impl<const COMMAS: u32> fmt::Display for Thousands<COMMAS> {
+    ghost output = { λ x. Some (separated COMMAS x.0) };
 
     fn fmt<W: fmt::Write>(&self, f: &mut fmt::Formatter<W>) -> fmt::Result {
-        put_thousands(f, u64::from(self.0), MOST_COMMAS)
+        put_thousands(f, self.0, COMMAS)
     }
 }
 
@@ -124,7 +116,7 @@ impl fmt::Display for Dollars {
     ghost output = { λ x. Some (dollars x.0) };
 
     fn fmt<W: fmt::Write>(&self, f: &mut fmt::Formatter<W>) -> fmt::Result {
-        let size = Size(self.0.unsigned_abs());
+        let size = Thousands::<MOST_SIZE_COMMAS>(self.0.unsigned_abs());
         if self.0 < 0 {
             write!(f, "-{size}")
         } else {
@@ -135,18 +127,6 @@ impl fmt::Display for Dollars {
 
 // A size below 2^64 has twenty digits at most.
 pub(crate) const MOST_SIZE_COMMAS: u32 = 6;
-
-// The size of an amount with its thousands separated.
-#[derive(Clone, Copy)]
-struct Size(u64);
-
-impl fmt::Display for Size {
-    ghost output = { λ x. Some (separated 6 x.0) };
-
-    fn fmt<W: fmt::Write>(&self, f: &mut fmt::Formatter<W>) -> fmt::Result {
-        put_thousands(f, self.0, MOST_SIZE_COMMAS)
-    }
-}
 
 fn put_thousands<W: fmt::Write>(f: &mut fmt::Formatter<W>, number: u64, commas: u32) -> fmt::Result
     ensures { WritesOnOk W.write_str_gives f.old result (separated commas number) f.new }

@@ -125,9 +125,8 @@ fn settings(program: &Program<'_>, path: &str) -> Result<Settings, NotDone> {
 
 // The journals' bytes, each checked whole.
 fn journals(program: &Program<'_>, names: Journals<'_>) -> Result<Vec<Vec<u8>>, NotDone> {
-    let mut left = names;
     let mut journals = Vec::new(program.rt.alloc());
-    while let Some(path) = left.next_name() {
+    for path in names {
         journals
             .push(journal(program, path)?)
             .map_err(|_| no_memory(program))?;

@@ -1,4 +1,5 @@
 pub mod Words
+pub mod KindLaws
 pub mod Usage
 pub mod Items
 pub mod Requests

@@ -1,20 +1,22 @@
 -- Which words make which request. Options may stand anywhere, each once at most; of --rpf and --fallback just one is given, --settings
 -- is, and at least one journal. Assumes nothing.
-use Rattle.std.specs.Prelude.{ℕ, Bool, cond, List, length, codes, Some, None, Ok, Err, Option, Result, ◌==◌, nat_lt}
+use Rattle.std.specs.Prelude.{ℕ, Bool, cond, List, length, codes, Some, None, Ok, Err, Option, Result, ◌==◌}
 use Rattle.parameter_text.specs.Questions.{and_then}
 use Rattle.margin_files.specs.Numbers.{rate_of, count_of}
 use Rattle.figures.specs.declared.form.Form.{Form}
 use Rattle.figures.specs.declared.form.Form.TheVariants.{Report, Csv as CsvForm}
-use Rattle.margin_desk.specs.declared.words.Kind.{Kind}
-use Rattle.margin_desk.specs.declared.words.Kind.TheVariants.{Csv, Trace, Help, Rpf, Fallback, Settings, Places, Holdings, Lacking, Unknown, Journal}
+use Rattle.std.specs.Result.{result_map_both}
+use Rattle.command_line.specs.Faults.{Fault, unknown_option as unknown, option_twice as twice, fault, known, once as once_given}
+use Rattle.margin_desk.specs.declared.kinds.Kind.{Kind}
+use Rattle.margin_desk.specs.declared.kinds.Kind.TheVariants.{Csv, Trace, Help, Rpf, Fallback, Settings, Places, Holdings, Lacking, Unknown, Journal}
 use Rattle.margin_desk.specs.declared.words.UsageError.{UsageError}
-use Rattle.margin_desk.specs.declared.words.UsageError.TheVariants.{UnknownOption, NoValue, OptionTwice, TwoSources, NoSource, NoSettings, NoJournal, NoRate, NoPlaces, NoHoldings}
+use Rattle.margin_desk.specs.declared.words.UsageError.TheVariants.{Options, NoValue, TwoSources, NoSource, NoSettings, NoJournal, NoRate, NoPlaces, NoHoldings}
 use Rattle.margin_desk.specs.declared.arguments.Source.{Source}
 use Rattle.margin_desk.specs.declared.arguments.Source.TheVariants.{File, Rate}
 use Rattle.margin_desk.specs.declared.arguments.MarginCall.{MarginCall}
 use Rattle.margin_desk.specs.declared.arguments.Request.{Request}
 use Rattle.margin_desk.specs.declared.arguments.Request.TheVariants.{Help as HelpRequest, Call}
-use Rattle.margin_desk.specs.Words.{Text}
+use Rattle.margin_desk.specs.Words.{Text, same_kind}
 use Rattle.margin_desk.specs.Items.{Said, items, of_kind, first_of, journals_in, journals_left}
 
 -- where returns and rates come from: a file, or a rate in ten-thousandths
@@ -52,10 +54,17 @@ pub data Wrong : Type 0 where
 
 -- answers of the code, with each text by its bytes
 
+-- what may be wrong with the options of any program, as a fault of this one
+abbrev pub options : Fault → Wrong
+options (unknown text) = unknown_option text
+options (twice text) = option_twice text
+
+abbrev pub told_options : Result (Unit {0}) Fault → Result (Unit {0}) Wrong
+told_options r = result_map_both (λ u. u) options r
+
 abbrev pub wrong : UsageError → Wrong
-wrong (UnknownOption option) = unknown_option option.now
+wrong (Options faulty) = options (fault faulty)
 wrong (NoValue option) = no_value option.now
-wrong (OptionTwice option) = option_twice option.now
 wrong TwoSources = two_sources
 wrong NoSource = no_source
 wrong NoSettings = no_settings
@@ -90,11 +99,11 @@ fault_of f None = Ok tt
 fault_of f (Some text) = Err (f text)
 
 unfoldable pub unknown_fault : List Said → Result (Unit {0}) Wrong
-unknown_fault is = and_then (fault_of unknown_option (first_of (of_kind Unknown is))) (λ _. fault_of no_value (first_of (of_kind Lacking is)))
+unknown_fault is = and_then (told_options (known same_kind Unknown is)) (λ _. fault_of no_value (first_of (of_kind Lacking is)))
 
 -- an option is given once at most
 unfoldable pub once : Kind → Text → List Said → Result (Unit {0}) Wrong
-once k name is = cond (nat_lt 1 (length (of_kind k is))) (Err (option_twice name)) (Ok tt)
+once k name is = told_options (once_given same_kind k name is)
 
 unfoldable pub flags_once : List Said → Result (Unit {0}) Wrong
 flags_once is = and_then (once Csv (codes "--csv") is) (λ _. and_then (once Trace (codes "--trace") is) (λ _. once Help (codes "--help") is))

@@ -1,12 +1,12 @@
 -- What is said of words that make no request. Assumes nothing.
 use Rattle.std.specs.Prelude.{ℕ, List, ◌++◌, codes}
+use Rattle.command_line.specs.Faults.{fault_text}
 use Rattle.margin_desk.specs.declared.words.UsageError.{UsageError}
-use Rattle.margin_desk.specs.declared.words.UsageError.TheVariants.{UnknownOption, NoValue, OptionTwice, TwoSources, NoSource, NoSettings, NoJournal, NoRate, NoPlaces, NoHoldings}
+use Rattle.margin_desk.specs.declared.words.UsageError.TheVariants.{Options, NoValue, TwoSources, NoSource, NoSettings, NoJournal, NoRate, NoPlaces, NoHoldings}
 
 abbrev pub usage_text : UsageError → List ℕ
-usage_text (UnknownOption option) = codes "unknown option " ++ option.now
+usage_text (Options faulty) = fault_text faulty
 usage_text (NoValue option) = option.now ++ codes " has no value"
-usage_text (OptionTwice option) = option.now ++ codes " is given twice"
 usage_text TwoSources = codes "--rpf and --fallback are both given"
 usage_text NoSource = codes "neither --rpf nor --fallback is given"
 usage_text NoSettings = codes "--settings is not given"

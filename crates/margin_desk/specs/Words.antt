@@ -1,21 +1,9 @@
 -- What each word of the command line is. Assumes nothing.
-use Rattle.std.specs.Prelude.{ℕ, Bool, true, false, cond, List, map, codes, Some, None, Option, String, string_bytes, ◌==◌, slice_index}
+use Rattle.std.specs.Prelude.{ℕ, Bool, true, false, cond, codes, Some, None, Option, ◌==◌}
 use Rattle.std.specs.Str.{bytes_eq}
-use Rattle.std.specs.declared.alloc.Global.{Global}
-use Rattle.margin_desk.specs.declared.words.Kind.{Kind}
-use Rattle.margin_desk.specs.declared.words.Kind.TheVariants.{Csv, Trace, Help, Rpf, Fallback, Settings, Places, Holdings, Lacking, Unknown, Journal}
-
--- a word, as its bytes
-abbrev pub Text : Type 0
-Text = List ℕ
-
--- the words as they were typed
-abbrev pub texts : List (String Global) → List Text
-texts words = map string_bytes words
-
--- a word that begins with a dash, byte 45
-abbrev pub dashed : Text → Bool
-dashed w = slice_index w 0 == 45
+pub use Rattle.command_line.specs.Items.{Text, texts, dashed}
+use Rattle.margin_desk.specs.declared.kinds.Kind.{Kind}
+use Rattle.margin_desk.specs.declared.kinds.Kind.TheVariants.{Csv, Trace, Help, Rpf, Fallback, Settings, Places, Holdings, Lacking, Unknown, Journal}
 
 abbrev pub kind_number : Kind → ℕ
 kind_number Csv = 0
@@ -47,6 +35,10 @@ takes_value Holdings = true
 takes_value Lacking = false
 takes_value Unknown = false
 takes_value Journal = false
+
+-- what such an option is as the last word
+abbrev pub lacking : Kind → Option Kind
+lacking k = cond (takes_value k) (Some Lacking) None
 
 -- the options without a value
 unfoldable pub flag_of : Text → Option Kind

@@ -63,6 +63,7 @@ impl fmt::Display for AnswerReport {
 }
 
 // How often each answer was given.
+// Kept: an array of counts would be indexed by a number made of each refusal, where each field has the refusal's name.
 #[derive(Clone, Copy)]
 pub struct AnswerCounts {
     accepted: u32,

@@ -1,12 +1,14 @@
 // What the command line asks of the margin call's program.
 ghost use Rattle.std.specs.Prelude.{◌≡◌};
 ghost use Rattle.std.specs.Result.{result_map_both};
-ghost use Rattle.margin_desk.specs.Words.{texts};
-ghost use Rattle.margin_desk.specs.Items.{items, journals_left};
-ghost use Rattle.margin_desk.specs.Requests.{wrong, told_source, told_call, told, unknown_fault, once, flags_once, sources_once, lists_once, words_fault, source_of, settings_of, places_of, holdings_of, some_journals, form_of, call_of, request_of};
+ghost use Rattle.margin_desk.specs.Words.{Text, texts};
+ghost use Rattle.margin_desk.specs.Items.{items_left, of_kind, first_of, journals_left};
+ghost use Rattle.margin_desk.specs.Requests.{Wrong, wrong, told_source, told_call, told, words_fault, source_of, settings_of, count_or, places_of, holdings_of, some_journals, given, form_of, call_of, request_of};
 
-use super::items::{Journals, count, first};
-use super::words::{Kind, UsageError};
+use super::journals::Journals;
+use super::kinds::Kind;
+use super::words::UsageError;
+use command_line::Items;
 use figures::Form;
 
 // How many places the account's table has where nothing else is asked for.
@@ -42,161 +44,136 @@ pub enum Request<'a> {
     Call(MarginCall<'a>),
 }
 
-// No option that there is not, and none that lacks its value.
-#[tactic(auto, unfolding(crate::specs::Requests::unknown_fault))]
-fn check_known(words: &[String]) -> Result<(), UsageError<'_>>
-    ensures { result_map_both (λ u. u) wrong result ≡ unknown_fault (items (texts words.now)) }
-{
-    if let Some(option) = first(words, Kind::Unknown) {
-        return Err(UsageError::UnknownOption(option));
+// The items of the command line, and what they ask for.
+#[derive(Clone, Copy)]
+struct CommandLine<'a> {
+    items: Items<'a, Kind>,
+}
+
+impl<'a> CommandLine<'a> {
+    // Each option is one that there is, has its value, and is given once at most.
+    #[tactic(auto, unfolding(crate::specs::Requests::words_fault, crate::specs::Requests::unknown_fault, crate::specs::Requests::flags_once, crate::specs::Requests::sources_once, crate::specs::Requests::lists_once, crate::specs::Requests::once))]
+    fn check(self) -> Result<(), UsageError<'a>>
+        ensures { result_map_both (λ u. u) wrong result ≡ words_fault (items_left self.entry.items) }
+    {
+        self.items.known(Kind::Unknown)?;
+        if let Some(option) = self.items.first_of(Kind::Lacking) {
+            return Err(UsageError::NoValue(option));
+        }
+        self.items.once(Kind::Csv, "--csv")?;
+        self.items.once(Kind::Trace, "--trace")?;
+        self.items.once(Kind::Help, "--help")?;
+        self.items.once(Kind::Rpf, "--rpf")?;
+        self.items.once(Kind::Fallback, "--fallback")?;
+        self.items.once(Kind::Settings, "--settings")?;
+        self.items.once(Kind::Places, "--places")?;
+        self.items.once(Kind::Holdings, "--holdings")?;
+        Ok(())
     }
-    if let Some(option) = first(words, Kind::Lacking) {
-        return Err(UsageError::NoValue(option));
+
+    // The one source that is given.
+    #[tactic(auto, unfolding(crate::specs::Requests::source_of))]
+    fn source(self) -> Result<Source<'a>, UsageError<'a>>
+        ensures { result_map_both told_source wrong result ≡ source_of (items_left self.entry.items) }
+    {
+        match (
+            self.items.first_of(Kind::Rpf),
+            self.items.first_of(Kind::Fallback),
+        ) {
+            (Some(path), None) => Ok(Source::File(path)),
+            (None, Some(text)) => {
+                let rate = margin_files::rate(text.as_bytes()).ok_or(UsageError::NoRate(text))?;
+                Ok(Source::Rate(rate))
+            }
+            (Some(_), Some(_)) => Err(UsageError::TwoSources),
+            (None, None) => Err(UsageError::NoSource),
+        }
     }
-    Ok(())
-}
 
-// An option is given once at most.
-#[tactic(auto, unfolding(crate::specs::Requests::once))]
-fn check_once<'a>(words: &[String], kind: Kind, name: &'a str) -> Result<(), UsageError<'a>>
-    ensures { result_map_both (λ u. u) wrong result ≡ once kind name.now (items (texts words.now)) }
-{
-    if count(words, kind) > 1 {
-        return Err(UsageError::OptionTwice(name));
+    #[tactic(auto, unfolding(crate::specs::Requests::settings_of))]
+    fn settings(self) -> Result<&'a str, UsageError<'a>>
+        ensures { result_map_both (λ x. x.now) wrong result ≡ settings_of (items_left self.entry.items) }
+    {
+        self.items
+            .first_of(Kind::Settings)
+            .ok_or(UsageError::NoSettings)
     }
-    Ok(())
-}
 
-#[tactic(auto, unfolding(crate::specs::Requests::flags_once))]
-fn check_flags(words: &[String]) -> Result<(), UsageError<'_>>
-    ensures { result_map_both (λ u. u) wrong result ≡ flags_once (items (texts words.now)) }
-{
-    check_once(words, Kind::Csv, "--csv")?;
-    check_once(words, Kind::Trace, "--trace")?;
-    check_once(words, Kind::Help, "--help")
-}
-
-#[tactic(auto, unfolding(crate::specs::Requests::sources_once))]
-fn check_sources(words: &[String]) -> Result<(), UsageError<'_>>
-    ensures { result_map_both (λ u. u) wrong result ≡ sources_once (items (texts words.now)) }
-{
-    check_once(words, Kind::Rpf, "--rpf")?;
-    check_once(words, Kind::Fallback, "--fallback")?;
-    check_once(words, Kind::Settings, "--settings")
-}
-
-#[tactic(auto, unfolding(crate::specs::Requests::lists_once))]
-fn check_lists(words: &[String]) -> Result<(), UsageError<'_>>
-    ensures { result_map_both (λ u. u) wrong result ≡ lists_once (items (texts words.now)) }
-{
-    check_once(words, Kind::Places, "--places")?;
-    check_once(words, Kind::Holdings, "--holdings")
-}
-
-// Each option is one that there is, has its value, and is given once at most.
-#[tactic(auto, unfolding(crate::specs::Requests::words_fault))]
-fn check_words(words: &[String]) -> Result<(), UsageError<'_>>
-    ensures { result_map_both (λ u. u) wrong result ≡ words_fault (items (texts words.now)) }
-{
-    check_known(words)?;
-    check_flags(words)?;
-    check_sources(words)?;
-    check_lists(words)
-}
-
-// The one source that is given.
-#[tactic(auto, unfolding(crate::specs::Requests::source_of))]
-fn read_source(words: &[String]) -> Result<Source<'_>, UsageError<'_>>
-    ensures { result_map_both told_source wrong result ≡ source_of (items (texts words.now)) }
-{
-    match (first(words, Kind::Rpf), first(words, Kind::Fallback)) {
-        (Some(path), None) => Ok(Source::File(path)),
-        (None, Some(text)) => match margin_files::rate(text.as_bytes()) {
-            Some(rate) => Ok(Source::Rate(rate)),
-            None => Err(UsageError::NoRate(text)),
-        },
-        (Some(_), Some(_)) => Err(UsageError::TwoSources),
-        (None, None) => Err(UsageError::NoSource),
+    // The count that an option says, or the usual one; of a text that is no count, the text.
+    fn count(self, kind: Kind, usual: usize) -> Result<usize, &'a str>
+        ensures { (f : Text → Wrong) → result_map_both (λ n. n) (λ text. f text.now) result ≡ count_or usual f (first_of (of_kind kind (items_left self.entry.items))) }
+    {
+        match self.items.first_of(kind) {
+            Some(text) => margin_files::count(text.as_bytes()).ok_or(text),
+            None => Ok(usual),
+        }
     }
-}
 
-#[tactic(auto, unfolding(crate::specs::Requests::settings_of))]
-fn read_settings(words: &[String]) -> Result<&str, UsageError<'_>>
-    ensures { result_map_both (λ x. x.now) wrong result ≡ settings_of (items (texts words.now)) }
-{
-    match first(words, Kind::Settings) {
-        Some(path) => Ok(path),
-        None => Err(UsageError::NoSettings),
+    #[tactic(auto, unfolding(crate::specs::Requests::places_of))]
+    fn places(self) -> Result<usize, UsageError<'a>>
+        ensures { result_map_both (λ n. n) wrong result ≡ places_of (items_left self.entry.items) }
+    {
+        self.count(Kind::Places, USUAL_PLACES)
+            .map_err(UsageError::NoPlaces)
     }
-}
 
-#[tactic(auto, unfolding(crate::specs::Requests::places_of))]
-fn read_places(words: &[String]) -> Result<usize, UsageError<'_>>
-    ensures { result_map_both (λ n. n) wrong result ≡ places_of (items (texts words.now)) }
-{
-    match first(words, Kind::Places) {
-        Some(text) => match margin_files::count(text.as_bytes()) {
-            Some(places) => Ok(places),
-            None => Err(UsageError::NoPlaces(text)),
-        },
-        None => Ok(USUAL_PLACES),
+    #[tactic(auto, unfolding(crate::specs::Requests::holdings_of))]
+    fn holdings(self) -> Result<usize, UsageError<'a>>
+        ensures { result_map_both (λ n. n) wrong result ≡ holdings_of (items_left self.entry.items) }
+    {
+        self.count(Kind::Holdings, USUAL_HOLDINGS)
+            .map_err(UsageError::NoHoldings)
     }
-}
 
-#[tactic(auto, unfolding(crate::specs::Requests::holdings_of))]
-fn read_holdings(words: &[String]) -> Result<usize, UsageError<'_>>
-    ensures { result_map_both (λ n. n) wrong result ≡ holdings_of (items (texts words.now)) }
-{
-    match first(words, Kind::Holdings) {
-        Some(text) => match margin_files::count(text.as_bytes()) {
-            Some(places) => Ok(places),
-            None => Err(UsageError::NoHoldings(text)),
-        },
-        None => Ok(USUAL_HOLDINGS),
+    // At least one journal is given.
+    #[tactic(auto, unfolding(crate::specs::Requests::some_journals))]
+    fn journals(self) -> Result<Journals<'a>, UsageError<'a>>
+        ensures { result_map_both journals_left wrong result ≡ some_journals (items_left self.entry.items) }
+    {
+        self.items
+            .first_of(Kind::Journal)
+            .ok_or(UsageError::NoJournal)?;
+        Ok(Journals::new(self.items))
     }
-}
 
-// At least one journal is given.
-#[tactic(auto, unfolding(crate::specs::Requests::some_journals))]
-fn read_journals(words: &[String]) -> Result<Journals<'_>, UsageError<'_>>
-    ensures { result_map_both journals_left wrong result ≡ some_journals (items (texts words.now)) }
-{
-    match first(words, Kind::Journal) {
-        Some(_) => Ok(Journals::new(words)),
-        None => Err(UsageError::NoJournal),
+    // Is an option without a value given?
+    fn is_given(self, kind: Kind) -> bool
+        ensures { result ≡ given kind (items_left self.entry.items) }
+    {
+        self.items.count_of(kind) == 1
     }
-}
 
-#[tactic(auto, unfolding(crate::specs::Requests::form_of))]
-fn read_form(words: &[String]) -> Form
-    ensures { result ≡ form_of (items (texts words.now)) }
-{
-    if count(words, Kind::Csv) == 1 {
-        Form::Csv
-    } else {
-        Form::Report
+    #[tactic(auto, unfolding(crate::specs::Requests::form_of))]
+    fn form(self) -> Form
+        ensures { result ≡ form_of (items_left self.entry.items) }
+    {
+        if self.is_given(Kind::Csv) {
+            Form::Csv
+        } else {
+            Form::Report
+        }
     }
-}
 
-// The margin call that the words ask for.
-#[tactic(auto, unfolding(crate::specs::Requests::call_of))]
-fn read_call(words: &[String]) -> Result<MarginCall<'_>, UsageError<'_>>
-    ensures { result_map_both told_call wrong result ≡ call_of (items (texts words.now)) }
-{
-    let source = read_source(words)?;
-    let settings = read_settings(words)?;
-    let journals = read_journals(words)?;
-    let places = read_places(words)?;
-    let holdings = read_holdings(words)?;
-    Ok(MarginCall {
-        form: read_form(words),
-        trace: count(words, Kind::Trace) == 1,
-        source,
-        settings,
-        places,
-        holdings,
-        journals,
-    })
+    // The margin call that the words ask for.
+    #[tactic(auto, unfolding(crate::specs::Requests::call_of))]
+    fn call(self) -> Result<MarginCall<'a>, UsageError<'a>>
+        ensures { result_map_both told_call wrong result ≡ call_of (items_left self.entry.items) }
+    {
+        let source = self.source()?;
+        let settings = self.settings()?;
+        let journals = self.journals()?;
+        let places = self.places()?;
+        let holdings = self.holdings()?;
+        Ok(MarginCall {
+            form: self.form(),
+            trace: self.is_given(Kind::Trace),
+            source,
+            settings,
+            places,
+            holdings,
+            journals,
+        })
+    }
 }
 
 impl<'a> Request<'a> {
@@ -204,10 +181,13 @@ impl<'a> Request<'a> {
     pub fn from_words(words: &'a [String]) -> Result<Request<'a>, UsageError<'a>>
         ensures { result_map_both told wrong result ≡ request_of (texts words.now) }
     {
-        check_words(words)?;
-        if count(words, Kind::Help) == 1 {
+        let line = CommandLine {
+            items: Items::new(words),
+        };
+        line.check()?;
+        if line.is_given(Kind::Help) {
             return Ok(Request::Help);
         }
-        Ok(Request::Call(read_call(words)?))
+        Ok(Request::Call(line.call()?))
     }
 }

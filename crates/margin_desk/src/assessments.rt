@@ -61,6 +61,7 @@ impl fmt::Display for PaymentLines<'_> {
 }
 
 // An amount at the right of its column.
+// Kept: the eleven amounts need no width at each, and the definition of a cell stays closed in the proofs of the rows.
 #[derive(Clone, Copy)]
 struct AmountCell<'a>(&'a i64);
 
@@ -69,10 +70,7 @@ impl fmt::Display for AmountCell<'_> {
 
     #[tactic(auto, unfolding(crate::specs::Assessments::amount_cell))]
     fn fmt<W: fmt::Write>(&self, f: &mut fmt::Formatter<W>) -> fmt::Result {
-        let cell = Column {
-            width: WIDTH,
-            value: Dollars(*self.0),
-        };
+        let cell = Column::<WIDTH, _>(Dollars(*self.0));
         write!(f, "{cell}")
     }
 }
@@ -162,6 +160,7 @@ impl fmt::Display for Figures<'_> {
 }
 
 // The name of a kind, as wide as its column.
+// Kept: the enum is another crate's, so no impl of Display can be its own, and a type around it would serve one call.
 fn kind_name(kind: Kind) -> &'static str
     ensures { result.now ≡ kind_name kind }
 {
@@ -213,10 +212,7 @@ impl fmt::Display for StockCell {
 
     #[tactic(auto, unfolding(crate::specs::Assessments::stock_cell))]
     fn fmt<W: fmt::Write>(&self, f: &mut fmt::Formatter<W>) -> fmt::Result {
-        let cell = Column {
-            width: STOCK_WIDTH,
-            value: Numeral(self.0),
-        };
+        let cell = Column::<STOCK_WIDTH, _>(Numeral(self.0));
         write!(f, "{cell}")
     }
 }

@@ -4,14 +4,15 @@
 mod answers;
 mod arguments;
 mod assessments;
-mod items;
+mod journals;
+mod kinds;
 mod refusals;
 mod words;
 
 pub use answers::{Answer, AnswerCounts, AnswerReport, CountsReport, CsvAnswer};
 pub use arguments::{MarginCall, Request, Source};
 pub use assessments::AssessmentText;
-pub use items::Journals;
+pub use journals::Journals;
 pub use refusals::{CsvRefused, Refused, RefusedReport};
 pub use words::UsageError;
 

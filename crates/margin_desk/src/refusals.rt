@@ -8,6 +8,7 @@ use margin_rules::AssessmentRefusal;
 use std::fmt;
 
 // A whole call that is refused.
+// Kept: each case is made at one place and named there, where an impl From and `into()` would say less.
 #[derive(Clone, Copy)]
 pub enum Refused {
     Rate(RateRefusal),
@@ -15,6 +16,7 @@ pub enum Refused {
     Assessment(AssessmentRefusal),
 }
 
+// Kept: the enums here and below are other crates', so no impl of Display can be theirs, and a type around each would serve one call.
 fn rate_meaning(refusal: RateRefusal) -> &'static str
     ensures { result.now ≡ rate_meaning refusal }
 {

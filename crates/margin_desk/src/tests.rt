@@ -217,8 +217,8 @@ fn told(call: MarginCall<'_>, heap: Global) -> Result<String, AllocError> {
     let places = call.places;
     let holdings = call.holdings;
     let mut names = call.journals;
-    let first = names.next_name().unwrap_or("none");
-    let second = names.next_name().unwrap_or("none");
+    let first = names.next().unwrap_or("none");
+    let second = names.next().unwrap_or("none");
     match call.source {
         Source::File(path) => format!(in heap;
             "{form}{trace} {path} {settings} {places} {holdings} {first} {second}"

@@ -34,27 +34,25 @@ fn entry(numbers: [i64; 6]) -> Posting
 }
 
 // The entry that the cells behind `post` write.
-fn posting(cells: Cells<'_>) -> Option<Posting>
+fn posting(mut cells: Cells<'_>) -> Option<Posting>
     ensures { result ≡ posting_in (cells_left cells.entry) }
 {
-    let mut left = cells;
-    let number = next_whole(&mut left)?;
-    let kind = next_whole(&mut left)?;
-    let stock = next_whole(&mut left)?;
-    let quantity = next_whole(&mut left)?;
-    let contract_value = next_whole(&mut left)?;
-    let market_value = next_whole(&mut left)?;
+    let number = next_whole(&mut cells)?;
+    let kind = next_whole(&mut cells)?;
+    let stock = next_whole(&mut cells)?;
+    let quantity = next_whole(&mut cells)?;
+    let contract_value = next_whole(&mut cells)?;
+    let market_value = next_whole(&mut cells)?;
     let numbers = [number, kind, stock, quantity, contract_value, market_value];
-    left.next().is_none().then_some(entry(numbers))
+    cells.next().is_none().then_some(entry(numbers))
 }
 
 // The number that the cells behind `cancel` write.
-fn cancelled(cells: Cells<'_>) -> Option<u32>
+fn cancelled(mut cells: Cells<'_>) -> Option<u32>
     ensures { result ≡ cancelled_in (cells_left cells.entry) }
 {
-    let mut left = cells;
-    let number = next_whole(&mut left)?;
-    left.next().is_none().then_some(in_u32(number))
+    let number = next_whole(&mut cells)?;
+    cells.next().is_none().then_some(in_u32(number))
 }
 
 // The call that a line writes.

@@ -14,6 +14,7 @@ const FOUR_PLACES: DecimalRule = DecimalRule {
     high: 99_999_999,
 };
 
+// Kept: the library's `to_digit` is of a char and gives 32 bits; with a conversion before and one behind it is no plainer.
 fn digit_value(byte: u8) -> Option<u64>
     ensures value { result ≡ digit_value byte }
     ensures small { IfSome result (λ d. d ≤ 9) }
@@ -79,6 +80,7 @@ pub(crate) fn in_u32(number: i64) -> u32
 }
 
 // The same for amounts.
+// Kept: each of the two is one call of the library's generic conversion; a generic one would be given the greatest number at every call.
 pub(crate) fn in_u64(number: i64) -> u64
     ensures { result ≡ or_greatest 18446744073709551615 number }
 {

@@ -89,12 +89,11 @@ fn cells_behind<'a>(line: &'a [u8], name: &[u8]) -> Option<Cells<'a>>
 }
 
 // The only cell that is left.
-fn only_cell(cells: Cells<'_>) -> Option<&[u8]>
+fn only_cell(mut cells: Cells<'_>) -> Option<&[u8]>
     ensures { option_map (λ x. x.now) result ≡ one_cell (cells_left cells.entry) }
 {
-    let mut left = cells;
-    let cell = left.next()?;
-    left.next().is_none().then_some(cell)
+    let cell = cells.next()?;
+    cells.next().is_none().then_some(cell)
 }
 
 impl Field {
@@ -121,6 +120,7 @@ impl Field {
         only_cell(self.cells(text)?)
     }
 
+    // Kept: a generic method over the function that reads the value needs three such functions beside it, as many as these chains are.
     // The value as an amount.
     #[tactic(auto, unfolding(crate::specs::Settings::amount_at, crate::specs::Settings::read_at))]
     fn amount(self, text: &[u8]) -> Result<u64, FormFault>

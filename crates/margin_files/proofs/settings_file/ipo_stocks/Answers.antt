@@ -19,7 +19,7 @@ loop-place-preserved c =
     let steps = c.in-Some.ensures.steps in
     let within : enumerate_count c.loop-place.place-iterator < MOST_IPO = search rules in
     let next : Placed (cells_left c.args.cells) (cells_left (take_source (enumerate_source c.next.new.self))) (set c.loop-place.stocks c.in-Some.place c.in_u32.result) (enumerate_count c.next.new.self) =
-    rw (steps.1, steps.2) (placed_more (cells_left c.args.cells) _ (cells_left (take_source (enumerate_source c.next.new.self))) c.in-Some.cell.now c.loop-place.stocks (enumerate_count c.loop-place.place-iterator) c.loop-place.invariant.4 steps.0.0 stock c.in_u32.result within (sym c.in_ok-whole_number.ensures) is) in
+    rw (steps.1, steps.2) (placed_more (cells_left c.args.cells) _ (cells_left (take_source (enumerate_source c.next.new.self))) c.in-Some.cell.now c.loop-place.stocks (enumerate_count c.loop-place.place-iterator) c.loop-place.invariant.4 steps.0.0 stock c.in_u32.result (omega (arith, within)) (sym c.in_ok-whole_number.ensures) is) in
     let left : take_count (enumerate_source c.next.new.self) + enumerate_count c.next.new.self ≡ MOST_IPO + 1 = omega (arith, steps.0.1, steps.2, c.loop-place.invariant.2) in
     let few : enumerate_count c.next.new.self ≤ MOST_IPO = omega (arith, steps.2, within) in
     search rules

@@ -22,18 +22,18 @@ pub enum DayRefusal {
 }
 
 impl From<OpeningRefusal> for DayRefusal {
-    ghost from_gives = { λ refusal day. day ≡ Opening refusal };
+    ghost from_gives = { λ opening day. day ≡ Opening opening };
 
-    fn from(refusal: OpeningRefusal) -> DayRefusal {
-        DayRefusal::Opening(refusal)
+    fn from(opening: OpeningRefusal) -> DayRefusal {
+        DayRefusal::Opening(opening)
     }
 }
 
 impl From<AssessmentRefusal> for DayRefusal {
-    ghost from_gives = { λ refusal day. day ≡ Assessing refusal };
+    ghost from_gives = { λ assessing day. day ≡ Assessing assessing };
 
-    fn from(refusal: AssessmentRefusal) -> DayRefusal {
-        DayRefusal::Assessing(refusal)
+    fn from(assessing: AssessmentRefusal) -> DayRefusal {
+        DayRefusal::Assessing(assessing)
     }
 }
 

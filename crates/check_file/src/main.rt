@@ -47,8 +47,9 @@ fn main(rt: HostRuntime) -> ExitCode {
 // Does what the arguments ask for.
 fn run(program: &Program<'_>) -> Result<(), NotDone> {
     let words = program.arguments()?;
-    let request = Request::from_words(words.as_slice())
-        .map_err(|error| program.not_done(format_args!("{error}\n{USAGE}")))?;
+    let request = Request::from_words(words.as_slice()).map_err(|error| program.not_done(
+        format_args!("{error}\n{USAGE}"),
+    ))?;
     match request {
         Request::Help => program.print(format_args!("{USAGE}\n\n{HELP}")),
         Request::Check { form, path } => check(program, form, path),

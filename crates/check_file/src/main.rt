@@ -2,6 +2,7 @@
 #![tactic(auto)]
 
 use desk::{CsvFault, CsvSummary, FaultReport, Form, Request, SummaryReport};
+use figures::InForm;
 use parameter_file::{Refusal, examine};
 use program::{NotDone, Program};
 use std::process::ExitCode;
@@ -59,9 +60,18 @@ fn run(program: &Program<'_>) -> Result<(), NotDone> {
 fn check(program: &Program<'_>, form: Form, path: &str) -> Result<(), NotDone> {
     let bytes = program.front_of(path, MOST_BYTES)?;
     match examine(bytes.as_slice(), program.rt.alloc()) {
-        Ok(summary) => program.print_in(form, SummaryReport(&summary), CsvSummary(&summary)),
+        Ok(summary) => program.print(InForm {
+            form,
+            report: SummaryReport(&summary),
+            csv: CsvSummary(&summary),
+        }),
         Err(Refusal::Fault(fault)) => {
-            Err(program.refused(form, FaultReport(&fault), CsvFault(&fault)))
+            program.print(InForm {
+                form,
+                report: FaultReport(&fault),
+                csv: CsvFault(&fault),
+            })?;
+            Err(NotDone)
         }
         Err(Refusal::Memory) => Err(program.not_done(format_args!("{path}: not enough memory"))),
     }

@@ -78,6 +78,7 @@ impl WordKind for Kind {
 
 impl<'a> Request<'a> {
     // What the words ask for; options may stand anywhere. Of several faults the error names the first of its cases.
+    #[tactic(auto, using(crate::proofs::WordLaws::request_from_items))]
     pub fn from_words(words: &'a [String]) -> Result<Request<'a>, UsageError<'a>>
         ensures { told result ≡ request_of (texts words.now) }
     {

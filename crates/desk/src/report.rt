@@ -20,11 +20,17 @@ impl fmt::Display for SummaryReport<'_> {
     ghost output = { λ x. Some (summary_report x.0.now) };
 
     fn fmt<W: fmt::Write>(&self, f: &mut fmt::Formatter<W>) -> fmt::Result {
-        let date = Column::<WIDTH, _>(IsoDate(&self.0.heading.date));
+        let date = Column {
+            width: WIDTH,
+            value: IsoDate(&self.0.heading.date),
+        };
         let parameters = &self.0.heading.parameters;
         let scenarios = ScenarioRows(parameters);
         let step = CountCell(parameters.step);
-        let factor = Column::<WIDTH, _>(Decimal::<10>(parameters.holiday_factor));
+        let factor = Column {
+            width: WIDTH,
+            value: Decimal::<10>(parameters.holiday_factor),
+        };
         let stocks = StockRows(self.0);
         write!(
             f,
@@ -51,12 +57,14 @@ impl fmt::Display for ScenarioRows<'_> {
     fn fmt<W: fmt::Write>(&self, f: &mut fmt::Formatter<W>) -> fmt::Result {
         let historical = &self.0.historical;
         let stress = &self.0.stress;
-        let historical_weight = Column::<WIDTH, _>(Decimal::<4>(u64::from(
-            historical.weight.ten_thousandths,
-        )));
-        let stress_weight = Column::<WIDTH, _>(Decimal::<4>(u64::from(
-            stress.weight.ten_thousandths,
-        )));
+        let historical_weight = Column {
+            width: WIDTH,
+            value: Decimal::<4>(u64::from(historical.weight.ten_thousandths)),
+        };
+        let stress_weight = Column {
+            width: WIDTH,
+            value: Decimal::<4>(u64::from(stress.weight.ten_thousandths)),
+        };
         let historical_count = CountCell(historical.count);
         let stress_count = CountCell(stress.count);
         let historical_tail = CountCell(historical.tail);

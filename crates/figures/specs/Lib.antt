@@ -1,2 +1,3 @@
 pub mod Figures
 pub mod Columns
+pub mod Forms

@@ -4,7 +4,9 @@ ghost use Rattle.std.specs.Fmt.{WritesOnOk};
 ghost use Rattle.figures.specs.Figures.{separated};
 ghost use Rattle.figures.specs.Columns.{Long, at_right, count_cell, spaces};
 
-use super::numbers::{Decimal, Dollars, IsoDate, MOST_SIZE_COMMAS, Numeral, Thousands};
+use super::numbers::{
+    Decimal, Dollars, IsoDate, MOST_COMMAS, MOST_SIZE_COMMAS, Numeral, Thousands,
+};
 use std::fmt;
 
 // A value that knows how long its text is: a width in a format string reaches only the types of `std`.
@@ -14,16 +16,20 @@ pub trait Measured: fmt::Display {
         ensures { Long result (Self.Display.output self.now) };
 }
 
-// A value at the right of a column of some width, or as it is where it is wider.
+// A value at the right of its column, or as it is where it is wider.
+// Kept: the width is a field, since a constant parameter takes no width that is known only as a program runs.
 #[derive(Clone, Copy)]
-pub struct Column<const WIDTH: usize, T>(pub T);
+pub struct Column<T> {
+    pub width: usize,
+    pub value: T,
+}
 
-impl<const WIDTH: usize, T: Measured> fmt::Display for Column<WIDTH, T> {
-    ghost output = { λ x. at_right WIDTH (T.Display.output x.0) };
+impl<T: Measured> fmt::Display for Column<T> {
+    ghost output = { λ x. at_right x.width (T.Display.output x.value) };
 
     fn fmt<W: fmt::Write>(&self, f: &mut fmt::Formatter<W>) -> fmt::Result {
-        let value = &self.0;
-        put_spaces(f, WIDTH.saturating_sub(value.length()))?;
+        let value = &self.value;
+        put_spaces(f, self.width.saturating_sub(value.length()))?;
         write!(f, "{value}")
     }
 }
@@ -58,9 +64,9 @@ impl Measured for Numeral {
     }
 }
 
-impl<const COMMAS: u32> Measured for Thousands<COMMAS> {
+impl Measured for Thousands {
     fn length(&self) -> usize {
-        thousands_length(self.0, COMMAS)
+        thousands_length(u64::from(self.0), MOST_COMMAS)
     }
 }
 
@@ -99,11 +105,8 @@ fn thousands_length(number: u64, commas: u32) -> usize
 // Wide enough for a count below 2^32.
 const COUNT_WIDTH: usize = 14;
 
-// A number below 2^32 has ten digits at most.
-const MOST_COUNT_COMMAS: u32 = 3;
-
 // A count at the right of a column of fourteen places, its thousands separated.
-// Kept: the counts of both programs need no width and no commas at each, and the definition of a cell stays closed in their proofs.
+// Kept: the counts of both programs need no width at each, and the definition of a cell stays closed in their proofs.
 #[derive(Clone, Copy)]
 pub struct CountCell(pub u32);
 
@@ -112,7 +115,10 @@ impl fmt::Display for CountCell {
 
     #[tactic(auto, unfolding(crate::specs::Columns::count_cell))]
     fn fmt<W: fmt::Write>(&self, f: &mut fmt::Formatter<W>) -> fmt::Result {
-        let cell = Column::<COUNT_WIDTH, _>(Thousands::<MOST_COUNT_COMMAS>(u64::from(self.0)));
+        let cell = Column {
+            width: COUNT_WIDTH,
+            value: Thousands(self.0),
+        };
         write!(f, "{cell}")
     }
 }

@@ -6,5 +6,5 @@ mod form;
 mod numbers;
 
 pub use columns::{Column, CountCell, Measured};
-pub use form::Form;
+pub use form::{Form, InForm};
 pub use numbers::{Decimal, Dollars, IsoDate, Numeral, Thousands};

@@ -98,13 +98,29 @@ impl fmt::Display for Numeral {
 
 // A number with its thousands separated, by as many commas as it needs and at most so many.
 #[derive(Clone, Copy)]
-pub struct Thousands<const COMMAS: u32>(pub u64);
+struct Separated<const COMMAS: u32>(u64);
 
-impl<const COMMAS: u32> fmt::Display for Thousands<COMMAS> {
+impl<const COMMAS: u32> fmt::Display for Separated<COMMAS> {
     ghost output = { λ x. Some (separated COMMAS x.0) };
 
     fn fmt<W: fmt::Write>(&self, f: &mut fmt::Formatter<W>) -> fmt::Result {
         put_thousands(f, self.0, COMMAS)
+    }
+}
+
+// A number with its thousands separated.
+#[derive(Clone, Copy)]
+pub struct Thousands(pub u32);
+
+// A number below 2^32 has ten digits at most.
+pub(crate) const MOST_COMMAS: u32 = 3;
+
+impl fmt::Display for Thousands {
+    ghost output = { λ x. Some (separated 3 x.0) };
+
+    fn fmt<W: fmt::Write>(&self, f: &mut fmt::Formatter<W>) -> fmt::Result {
+        let number = Separated::<MOST_COMMAS>(u64::from(self.0));
+        write!(f, "{number}")
     }
 }
 
@@ -116,7 +132,7 @@ impl fmt::Display for Dollars {
     ghost output = { λ x. Some (dollars x.0) };
 
     fn fmt<W: fmt::Write>(&self, f: &mut fmt::Formatter<W>) -> fmt::Result {
-        let size = Thousands::<MOST_SIZE_COMMAS>(self.0.unsigned_abs());
+        let size = Separated::<MOST_SIZE_COMMAS>(self.0.unsigned_abs());
         if self.0 < 0 {
             write!(f, "-{size}")
         } else {

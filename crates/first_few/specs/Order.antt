@@ -1,4 +1,4 @@
--- A comparison that tells an order, and what stands in order.
+-- What stands in order, and when a comparison tells an order.
 use Rattle.std.specs.Prelude.{◌≡◌, Bool, false, List, [], ◌∷◌, ⊤}
 use Rattle.std.specs.declared.cmp.Ordering.{Ordering}
 use Rattle.std.specs.Ordering.{is_lt}

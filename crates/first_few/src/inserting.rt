@@ -13,7 +13,7 @@ fn last_ahead<T: Order>(part: &[T], x: T) -> Option<usize>
     ensures behind { IfSome result (λ i. (k : ℕ) → i < k → k < length part.now → T.before x (slice_index_or part.now k x) ≡ true) }
     ensures all_behind { result ≡ None → (k : ℕ) → k < length part.now → T.before x (slice_index_or part.now k x) ≡ true }
 {
-    part.iter().rposition(|y| x.cmp(y).is_ge())
+    part.iter().rposition(|y| !x.precedes(y))
 }
 
 // How many of `part` stay ahead of `x`.

@@ -37,7 +37,7 @@ impl TryFrom<u32> for Kind {
 
 impl Instrument {
     // Are two instruments one?
-    // Kept: its contract is the one place that says what the derived `==` tells.
+    // Kept: a method around the derived `==`, whose contract says by kind and stock which instruments a position takes for one.
     pub fn is(self, other: Instrument) -> bool
         ensures { result ≡ same_instrument self other }
     {

@@ -12,7 +12,7 @@ use Rattle.ledger.specs.Table.{sound}
 use Rattle.margin_rules.specs.declared.terms.Holding.{Holding}
 use Rattle.margin_rules.specs.Positions.{all_kinds, all_stocks, held_in, any_place, book}
 use Rattle.margin_rules.specs.Answers.{larger, holdings_of_kind, holdings_of}
-use Rattle.margin_rules.specs.contracts.orders.HoldingOrder.TheImpl.Laws.{compares-law}
+use Rattle.margin_rules.specs.contracts.orders.HoldingOrder.TheImpl.Laws.{strict-law}
 use Rattle.margin.specs.Visits.{stock_in, visited}
 use Rattle.margin.specs.Listing.{holding, listed}
 use Rattle.margin.proofs.Keys.{true_false, keys_apart}
@@ -114,7 +114,7 @@ kinds_apart = apart_map kind_number all_kinds (apart_counting 0 4)
 -- the greatest of the positions that are visited are the greatest of all
 pub visited_kept : (t : List Place) → sound t ≡ true → (n : ℕ) → kept larger n (gathered (listed t) all_kinds) ≡ kept larger n (holdings_of (book t) all_stocks all_kinds)
 visited_kept t s n =
-    kept_same larger compares-law.strict n (gathered (listed t) all_kinds) (gathered all all_kinds)
+    kept_same larger strict-law n (gathered (listed t) all_kinds) (gathered all all_kinds)
     (apart_gathered (listed t) (λ k h i. kind_of_holding t k h (visited (stock_in k) t) i) (λ k. apart_holdings t k (visited (stock_in k) t) (keys_apart (stock_in k) t)) all_kinds kinds_apart)
     (apart_gathered all (λ k h i. kind_of_holding t k h (filter (held k) all_stocks) i) (λ k. apart_holdings t k (filter (held k) all_stocks) (apart_filter (held k) all_stocks all_apart)) all_kinds kinds_apart)
     (within_gathered (listed t) all (λ k. within_holdings t k (visited (stock_in k) t) (filter (held k) all_stocks) (λ x i. in_filter (held k) x all_stocks (visited_within k t s x i) (visited_held k t s x i))) all_kinds)

@@ -13,7 +13,7 @@ use Rattle.first_few.proofs.Offers.{Offered, offered_more}
 use Rattle.margin_rules.specs.declared.terms.Outcome.{Outcome}
 use Rattle.margin_rules.specs.Answers.{worse}
 use Rattle.margin.specs.Outcomes.{outcomes}
-use Rattle.margin_rules.specs.contracts.orders.OutcomeOrder.TheImpl.Laws.{compares-law}
+use Rattle.margin_rules.specs.contracts.orders.OutcomeOrder.TheImpl.Laws.{strict-law}
 
 worse_yes : (a b : Outcome) → worse a b ≡ true → a.total ≤ℤ b.total
 worse_yes a b e = grind (arith, ints, nat_tests)
@@ -56,4 +56,4 @@ pub tailed_all : (n : ℕ) (ts : List ℤ) (i : ℕ) (places : List Outcome) (le
 tailed_all n ts i places len h s = s.is ∙ kept_all worse n (outcomes 0 ts) i (omega (arith, length_outcomes 0 ts))
 
 pub tail_is : (n : ℕ) (ts : List ℤ) → n ≤ length ts → sum_of (λ o. o.total) (kept worse n (outcomes 0 ts)) ≡ tail_sum n ts
-tail_is n ts h = kept_sum worse (λ o. o.total) compares-law.strict by_total n (outcomes 0 ts) (omega (arith, length_outcomes 0 ts)) ∙ ap (tail_sum n) (totals_are 0 ts)
+tail_is n ts h = kept_sum worse (λ o. o.total) strict-law by_total n (outcomes 0 ts) (omega (arith, length_outcomes 0 ts)) ∙ ap (tail_sum n) (totals_are 0 ts)

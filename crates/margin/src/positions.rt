@@ -27,7 +27,7 @@ fn part_of(place: &Place, kind: Kind, stock: u32) -> Position
     ensures { result ≡ part kind stock place.now }
 {
     match place {
-        Place::Live { entry, .. } if entry.instrument == (Instrument { kind, stock }) => Position {
+        Place::Live { entry, .. } if (Instrument { kind, stock }).is(entry.instrument) => Position {
             quantity: entry.quantity,
             contract_value: entry.contract_value,
             market_value: entry.market_value,

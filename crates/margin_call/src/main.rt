@@ -7,7 +7,7 @@ ghost use Rattle.margin_call.specs.Applied.{call_made, answer_made, places_after
 
 use desk::{CsvFault, FaultReport};
 use fallback_source::FallbackSource;
-use figures::Form;
+use figures::{Form, InForm};
 use ledger::{EntryRefusal, Kind, Place, Settings};
 use margin::{ClosedAccount, OpenAccount, check_open, open};
 use margin_desk::{
@@ -20,6 +20,7 @@ use parameter_file::{Memory, Received};
 use program::{NotDone, Program};
 use return_source::ReturnSource;
 use std::alloc::{AllocError, Global};
+use std::fmt::Display;
 use std::process::ExitCode;
 
 // The program's name, before what it says on standard error.
@@ -162,10 +163,7 @@ impl Day<'_> {
             .program
             .not_done(format_args!("{path}: not enough memory")))?;
         let mut file = Received::new(bytes, memory);
-        file.check().map_err(|fault| {
-            self.program
-                .refused(self.wanted.form, FaultReport(&fault), CsvFault(&fault))
-        })?;
+        file.check().map_err(|fault| self.refused_as(FaultReport(&fault), CsvFault(&fault)))?;
         self.over(&file.checked())
     }
 
@@ -207,13 +205,17 @@ impl Day<'_> {
         ensures room { length account.new.table.now ≡ length account.old.table.now }
         ensures settings { account.new.settings ≡ account.old.settings }
     {
-        for (index, call) in Calls::new(text).enumerate() {
+        // Kept: the line is counted here, since `enumerate` asks whether the calls can be counted, which can be shown of the whole
+        // text alone: with half of it a proof would fail for that and not for what the calls leave.
+        let mut line: usize = 0;
+        for call in Calls::new(text) {
+            line = line.saturating_add(1);
             let answer = answer(account, call);
             counts.count(&answer);
             if self.wanted.trace {
                 self.trace(Answer {
                     journal,
-                    line: index + 1,
+                    line,
                     answer,
                 })?;
             }
@@ -222,8 +224,7 @@ impl Day<'_> {
     }
 
     fn trace(&self, answer: Answer) -> Result<(), NotDone> {
-        self.program
-            .print_in(self.wanted.form, AnswerReport(answer), CsvAnswer(answer))
+        self.print_in_form(AnswerReport(answer), CsvAnswer(answer))
     }
 
     // Assesses the closed account, and prints the answer; for people also how often each answer was given to the journals.
@@ -259,8 +260,25 @@ impl Day<'_> {
 
     // Prints why the whole call is refused.
     fn refused(&self, why: Refused) -> NotDone {
-        self.program
-            .refused(self.wanted.form, RefusedReport(why), CsvRefused(why))
+        self.refused_as(RefusedReport(why), CsvRefused(why))
+    }
+
+    // Prints a refusal. The job is not done, whether that could be printed or not.
+    fn refused_as<R: Display + Drop, C: Display + Drop>(&self, report: R, csv: C) -> NotDone {
+        self.print_in_form(report, csv).err().unwrap_or(NotDone)
+    }
+
+    // Prints a text in the form that is asked for.
+    fn print_in_form<R: Display + Drop, C: Display + Drop>(
+        &self,
+        report: R,
+        csv: C,
+    ) -> Result<(), NotDone> {
+        self.program.print(InForm {
+            form: self.wanted.form,
+            report,
+            csv,
+        })
     }
 }
 

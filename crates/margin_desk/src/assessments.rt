@@ -70,7 +70,10 @@ impl fmt::Display for AmountCell<'_> {
 
     #[tactic(auto, unfolding(crate::specs::Assessments::amount_cell))]
     fn fmt<W: fmt::Write>(&self, f: &mut fmt::Formatter<W>) -> fmt::Result {
-        let cell = Column::<WIDTH, _>(Dollars(*self.0));
+        let cell = Column {
+            width: WIDTH,
+            value: Dollars(*self.0),
+        };
         write!(f, "{cell}")
     }
 }
@@ -212,7 +215,10 @@ impl fmt::Display for StockCell {
 
     #[tactic(auto, unfolding(crate::specs::Assessments::stock_cell))]
     fn fmt<W: fmt::Write>(&self, f: &mut fmt::Formatter<W>) -> fmt::Result {
-        let cell = Column::<STOCK_WIDTH, _>(Numeral(self.0));
+        let cell = Column {
+            width: STOCK_WIDTH,
+            value: Numeral(self.0),
+        };
         write!(f, "{cell}")
     }
 }

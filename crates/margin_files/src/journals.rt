@@ -69,15 +69,18 @@ fn call(line: &[u8]) -> Option<JournalCall>
 }
 
 // How many calls a journal has, or its first line that is none. A journal is checked whole before any of its calls is made.
+#[tactic(auto, using(crate::proofs::JournalSteps::counted_more, crate::proofs::JournalSteps::first_faulty, crate::proofs::JournalSteps::all_calls))]
 pub fn check_journal(text: &[u8]) -> Result<usize, FormFault>
     ensures { result ≡ journal_check (lines_of text.now) }
 {
-    let calls = Calls::new(text).count();
-    if calls == Lines::new(text).count() {
-        Ok(calls)
-    } else {
-        Err(FormFault { line: calls + 1 })
+    let mut count = 0;
+    for (before, line) in Lines::new(text).enumerate() {
+        if call(line).is_none() {
+            return Err(FormFault { line: before + 1 });
+        }
+        count = before + 1;
     }
+    Ok(count)
 }
 
 // The calls of a journal that are still to come: all of them where the journal passed its check, else those before its first

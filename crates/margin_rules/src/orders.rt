@@ -1,5 +1,5 @@
 // The orders of what an assessment keeps.
-ghost use Rattle.std.specs.Prelude.{unsigned_abs};
+ghost use Rattle.std.specs.Prelude.{◌≡◌, unsigned_abs};
 ghost use Rattle.std.specs.Ordering.{nat_cmp, int_cmp, on, flip_args, then_cmp, as_partial_cmp};
 ghost use Rattle.std.specs.Cmp.{partial_order_from_own_ties};
 ghost use Rattle.std.specs.Cmp.Rules.{comparing};
@@ -7,6 +7,7 @@ ghost use Rattle.std.proofs.Common.{arith, rules};
 ghost use Rattle.std.proofs.lemmas.Int.{ints};
 ghost use Rattle.std.proofs.lemmas.Bool.Decides.{nat_tests};
 ghost use Rattle.ledger.specs.contracts.terms.KindOrd.TheImpl.Laws.{total-law as kind_total};
+ghost use Rattle.first_few.specs.Order.{ComparesBy};
 ghost use Rattle.margin_rules.specs.Answers.{larger, worse};
 
 use crate::terms::{Holding, Outcome};
@@ -18,7 +19,14 @@ use std::cmp::Ordering;
 impl Order for Outcome {
     ghost before = { worse };
 
-    ghost compares = { record { less = λ a b. Prim.grind (arith, ints, nat_tests); strict = record { asym = λ a b e. Prim.grind (arith, ints, nat_tests); trans = λ a b c e f. Prim.grind (arith, ints, nat_tests); one = λ a b e f. Prim.grind (arith, ints, nat_tests) } } };
+    fn precedes(&self, other: &Outcome) -> bool
+        ensures order { result ≡ worse self.now other.now }
+        ensures comparison { ComparesBy ⟦<Outcome as Ord>⟧.cmp worse }
+    {
+        self < other
+    }
+
+    ghost strict = { record { asym = λ a b e. Prim.grind (arith, ints, nat_tests); trans = λ a b c e f. Prim.grind (arith, ints, nat_tests); one = λ a b e f. Prim.grind (arith, ints, nat_tests) } };
 }
 
 // The greater size first, then the lower kind, then the lower stock.
@@ -56,5 +64,12 @@ impl PartialOrd for Holding {
 impl Order for Holding {
     ghost before = { larger };
 
-    ghost compares = { record { less = λ a b. Prim.grind (arith, ints, nat_tests); strict = record { asym = λ a b e. Prim.grind (arith, ints, nat_tests); trans = λ a b c e f. Prim.grind (arith, ints, nat_tests); one = λ a b e f. Prim.grind (arith, ints, nat_tests) } } };
+    fn precedes(&self, other: &Holding) -> bool
+        ensures order { result ≡ larger self.now other.now }
+        ensures comparison { ComparesBy ⟦<Holding as Ord>⟧.cmp larger }
+    {
+        self.cmp(other).is_lt()
+    }
+
+    ghost strict = { record { asym = λ a b e. Prim.grind (arith, ints, nat_tests); trans = λ a b c e f. Prim.grind (arith, ints, nat_tests); one = λ a b e f. Prim.grind (arith, ints, nat_tests) } };
 }

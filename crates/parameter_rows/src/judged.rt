@@ -63,6 +63,8 @@ fn judged_line(line: &[u8], row: &mut [i32]) -> Result<(), Question>
 }
 
 // A row of returns from the front of `text`: where the next line starts, or the first question that the line fails.
+// Apart from the code around it: within a larger function its loops over bytes keep their places in memory.
+#[inline(never)]
 pub(crate) fn judged_row(text: &[u8], row: &mut [i32]) -> Result<usize, Question>
     ensures judged { (n : ℕ) → n ≡ length row.old → Agrees (returns_cells n (cells_of (line_of text.now))) result row.new }
     ensures next { IfOk result (λ next. (drop next text.now ≡ after_line text.now) × (next ≤ length text.now)) }

@@ -2,6 +2,7 @@
 use Rattle.std.proofs.Common.{◌≡◌, ℕ, suc, ◌+◌, ◌-◌, ◌*◌, ◌^◌, ◌<◌, ◌≤◌, Bool, true, false, ◌&&◌, List, [], ◌∷◌, length, get_or, drop, sym, refl, ap, ◌∙◌, mul-le-mul_right, mul_assoc, mul-le-mul_left, arith}
 use native.Mathlib.Nat.{one-le-pow, pow-succ', pow-le-pow_right}
 use Rattle.std.specs.List.{AllByRecursion as All, list_all}
+use Rattle.std.proofs.lemmas.Nat.{pow-add}
 use Rattle.std.proofs.lemmas.List.{at_drop_more, at_drop_all}
 use Rattle.parameter_text.specs.Digits.{Digit, every, number}
 
@@ -71,3 +72,12 @@ nine_digits xs h k =
     let less : 10 ^ length xs ≤ 10 ^ 9 = pow-le-pow_right (omega arith) k in
     let d : number 0 xs + 1 ≤ (0 + 1) * 10 ^ length xs = digits_room 0 xs h in
     omega arith
+
+-- so many digits write a number below so many places' power of ten, told by what is left up to ten places
+pub digits_bound : (xs : List ℕ) → All Digit xs → length xs ≤ 10 → (number 0 xs + 1) * 10 ^ (10 - length xs) ≤ 10000000000
+digits_bound xs h k =
+    let d : number 0 xs + 1 ≤ (0 + 1) * 10 ^ length xs = digits_room 0 xs h in
+    let less : number 0 xs + 1 ≤ 10 ^ length xs = omega arith in
+    let sum : length xs + (10 - length xs) ≡ 10 = omega arith in
+    let all : 10 ^ length xs * 10 ^ (10 - length xs) ≡ 10 ^ 10 = sym (pow-add 10 (length xs) (10 - length xs)) ∙ ap (λ (m : ℕ). 10 ^ m) sum in
+    omega (arith, mul-le-mul_right (10 ^ (10 - length xs)) less, all)

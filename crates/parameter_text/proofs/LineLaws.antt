@@ -1,11 +1,19 @@
 -- The first line of a text, and the lines of what follows it. Assumes nothing.
 use Rattle.std.proofs.Common.{◌≡◌, ℕ, suc, ◌+◌, ◌-◌, ◌<◌, ◌≤◌, false, not, eqb, List, [], ◌∷◌, ◌++◌, length, get_or, take, drop, sym, refl, ap, ◌∙◌, inl, inr, ⊎_elim, arith}
 use Rattle.std.specs.List.{prefix_len, AllByRecursion as All}
-use Rattle.std.proofs.lemmas.List.{append_assoc, append-nil, take_at, drop_at, take_all, drop_all, drop_more, length-append}
+use Rattle.std.proofs.lemmas.List.{append_assoc, append-nil, take_at, drop_at, take_all, drop_all, drop_more, length-append, length-drop}
 use Rattle.std.proofs.lemmas.Bool.{cond-true, cond-false, cases_lt}
 use Rattle.std.proofs.lemmas.Bool.Decides.{nat_tests}
 use Rattle.parameter_text.specs.Cuts.{split, chomped, last_line, ended_lines, lines, ended, within_line, line_of, after_line, Starts}
 use Rattle.parameter_text.proofs.CutLaws.{before, split_some, split_front, split_whole, cut_parts, cut_nowhere}
+
+-- what stands at the end of a list, found again by its length
+pub drop_back : {X : Type 0} (k : ℕ) (xs : List X) → drop (length xs - length (drop k xs)) xs ≡ drop k xs
+drop_back k xs =
+    ⊎_elim
+    (λ (h : k < length xs). let same : length xs - length (drop k xs) ≡ k = omega (arith, length-drop k xs) in ap (λ (n : ℕ). drop n xs) same)
+    (λ (h : length xs ≤ k). drop_all (length xs - length (drop k xs)) xs (omega (arith, length-drop k xs)) ∙ sym (drop_all k xs h))
+    (cases_lt k (length xs))
 
 pub chomped_cr : (xs : List ℕ) → 0 < length xs → get_or xs (length xs - 1) 0 ≡ 13 → take (length xs - 1) xs ≡ chomped xs
 chomped_cr [] h e = absurd (omega arith)

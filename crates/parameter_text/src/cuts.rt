@@ -43,11 +43,17 @@ impl<'a> Cells<'a> {
     }
 
     // Are all cells that are still to come empty?
-    pub fn are_empty(mut self) -> bool
+    pub fn are_empty(self) -> bool
         ensures { result ≡ all_empty (cells_left self.entry) }
     {
-        self.all(is_empty)
+        only_empty(self)
     }
+}
+
+fn only_empty(mut cells: Cells<'_>) -> bool
+    ensures { result ≡ all_empty (cells_left cells.entry) }
+{
+    cells.all(is_empty)
 }
 
 // Gives the cells one after the other. Once the last was given there is none, and from then on there is none.

@@ -1,12 +1,28 @@
 // Decimals: an optional minus, one to four digits, and optionally a point with one to ten digits.
-ghost use Rattle.std.specs.Prelude.{◌≡◌, ◌≤◌, length, take, drop, nat_eq};
-ghost use Rattle.std.specs.List.{prefix_len};
-ghost use Rattle.parameter_text.specs.Digits.{digit, every};
+ghost use Rattle.std.specs.Prelude.{◌≡◌, ◌^◌, ◌≤◌, length, take, drop, nat_eq};
+ghost use Rattle.std.specs.List.{prefix_len, AllByRecursion};
+ghost use Rattle.parameter_text.specs.Digits.{Digit, digit, every};
 ghost use Rattle.parameter_text.specs.Signs.{is_minus};
 ghost use Rattle.parameter_text.specs.Decimals.{place_count, scaled, minus_in, unsigned_in, pointed, formed, valued, judged, decimal, DecimalsPass};
 
 use super::digits::{is_sized, leading_digits, number_of};
 use super::terms::{DecimalRule, Places, Question, Sign};
+
+// Ten to the power of the index.
+// Kept: a table, for with `10u64.pow` a file whose returns are spelled with other than eight places takes a quarter more time.
+const POWERS: [u64; 11] = [
+    1,
+    10,
+    100,
+    1_000,
+    10_000,
+    100_000,
+    1_000_000,
+    10_000_000,
+    100_000_000,
+    1_000_000_000,
+    10_000_000_000,
+];
 
 impl Places {
     // How many they are.
@@ -69,16 +85,26 @@ impl<'a> Parts<'a> {
     }
 }
 
+// Ten to the power of k.
+fn power(k: usize) -> u64
+    requires { k ≤ 10 }
+    ensures value { result ≡ 10 ^ k }
+    ensures bound { result ≤ 10000000000 }
+{
+    POWERS[k]
+}
+
 // The size of a decimal in units of its last place.
 fn size_of(whole: &[u8], fraction: &[u8], places: usize) -> u64
     requires four { length whole.now ≤ 4 }
     requires places { places ≤ 10 }
     ensures value { result ≡ scaled places whole.now fraction.now }
     ensures bound { result ≤ 3000000000000000 }
+    ensures digits { AllByRecursion Digit whole.now → AllByRecursion Digit fraction.now → result ≤ 100020000000000 }
 {
     let digits = &fraction[..fraction.len().min(places)];
-    let units = number_of(whole) * 10u64.pow(places as u32);
-    let rest = number_of(digits) * 10u64.pow((places - digits.len()) as u32);
+    let units = number_of(whole) * power(places);
+    let rest = number_of(digits) * power(places - digits.len());
     units + rest
 }
 
@@ -111,7 +137,7 @@ impl DecimalRule {
         }
         let fraction = parts.fraction();
         let size = size_of(parts.whole, fraction, self.places.count());
-        self.in_range(fraction, parts.sign.with(size))
+        self.in_range(fraction, parts.sign.with_small(size))
     }
 
     // What a cell is worth in units of the last place, or the question that it fails.

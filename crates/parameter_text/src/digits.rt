@@ -1,7 +1,7 @@
 // Digits, and the number that they write.
-ghost use Rattle.std.specs.Prelude.{◌≡◌, ◌+◌, ◌*◌, ◌^◌, ◌≤◌, length, take, drop};
-ghost use Rattle.std.specs.List.{prefix_len};
-ghost use Rattle.parameter_text.specs.Digits.{digit, every, number};
+ghost use Rattle.std.specs.Prelude.{◌≡◌, ◌+◌, ◌-◌, ◌*◌, ◌^◌, ◌≤◌, length, take, drop};
+ghost use Rattle.std.specs.List.{prefix_len, AllByRecursion};
+ghost use Rattle.parameter_text.specs.Digits.{Digit, digit, every, number};
 ghost use Rattle.parameter_text.specs.Dates.{sized};
 
 // The digits in front, and what follows them.
@@ -31,10 +31,11 @@ pub(crate) fn number_of(bytes: &[u8]) -> u64
     requires { length bytes.now ≤ 10 }
     ensures value { result ≡ number 0 bytes.now }
     ensures bound { result + 23 ≤ 23 * 10 ^ length bytes.now }
+    ensures digits { AllByRecursion Digit bytes.now → (result + 1) * 10 ^ (10 - length bytes.now) ≤ 10000000000 }
 {
     let mut number = 0;
     for b in bytes {
-        number = number * 10 + u64::from(b.saturating_sub(b'0'));
+        number = number * 10 + u64::from(*b).saturating_sub(u64::from(b'0'));
     }
     number
 }

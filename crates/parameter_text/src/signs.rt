@@ -27,4 +27,16 @@ impl Sign {
             Sign::Minus => 0i64.saturating_sub_unsigned(size),
         }
     }
+    // A size that is far from the greatest, with this sign. Kept beside `with`: it asks nothing of the size as it runs, and each
+    // return of a parameter file in another spelling than the usual comes here.
+    pub(crate) fn with_small(self, size: u64) -> i64
+        requires { size ≤ 3000000000000000 }
+        ensures { result ≡ signed (is_minus self) size }
+    {
+        let value = size as i64;
+        match self {
+            Sign::Plus => value,
+            Sign::Minus => -value,
+        }
+    }
 }

@@ -1,7 +1,6 @@
 // What the programs share at their edges: the words that they are given, the files that they read, and what they say.
 #![tactic(auto)]
 
-use figures::Form;
 use std::fmt::Display;
 use std::fs::File;
 use std::io::Read;
@@ -11,6 +10,23 @@ use std::{env, io};
 #[derive(Drop)]
 pub struct NotDone;
 
+// The words behind the program's own name.
+pub fn arguments(rt: &HostRuntime) -> io::Result<Vec<String>> {
+    let words = env::args(rt)?.skip(1).collect(rt.alloc())?;
+    Ok(words)
+}
+
+// The bytes of a file: all of them, or so many of the first ones.
+pub fn front_of(rt: &HostRuntime, path: &str, most: u64) -> io::Result<Vec<u8>> {
+    let file = File::open(rt, path)?;
+    // There is memory at once for the length that the file is said to have, if there is so much: for 0 where the system does not say.
+    let length = file.metadata().map_or(0, |said| said.len());
+    let mut bytes = Vec::new(rt.alloc());
+    let _ = bytes.reserve(length.min(most) as usize);
+    let _ = file.take(most).read_to_end(&mut bytes)?;
+    Ok(bytes)
+}
+
 // A program at work: the runtime that it is given, and its name, which stands before what it says on standard error.
 #[derive(Clone, Copy)]
 pub struct Program<'a> {
@@ -19,16 +35,18 @@ pub struct Program<'a> {
 }
 
 impl Program<'_> {
-    // The words behind the program's own name.
+    // The words behind the program's own name, or it is said why they cannot be read.
     pub fn arguments(&self) -> Result<Vec<String>, NotDone> {
-        words(self.rt).map_err(|error| {
+        arguments(self.rt).map_err(|error| {
             self.not_done(format_args!("the arguments cannot be read: {error}"))
         })
     }
 
-    // The bytes of a file: all of them, or so many of the first ones.
+    // The bytes of a file: all of them, or so many of the first ones; or it is said why they cannot be read.
     pub fn front_of(&self, path: &str, most: u64) -> Result<Vec<u8>, NotDone> {
-        front(self.rt, path, most).map_err(|error| self.not_done(format_args!("{path}: {error}")))
+        front_of(self.rt, path, most).map_err(|error| self.not_done(format_args!(
+            "{path}: {error}"
+        )))
     }
 
     // Prints an answer, or says why it cannot be printed.
@@ -38,48 +56,10 @@ impl Program<'_> {
         })
     }
 
-    // Prints an answer in the form that is asked for.
-    pub fn print_in<R: Display + Drop, C: Display + Drop>(
-        &self,
-        form: Form,
-        report: R,
-        csv: C,
-    ) -> Result<(), NotDone> {
-        match form {
-            Form::Report => self.print(report),
-            Form::Csv => self.print(csv),
-        }
-    }
-
-    // Prints in the form that is asked for why the job is refused. It is not done, whether that could be printed or not.
-    pub fn refused<R: Display + Drop, C: Display + Drop>(
-        &self,
-        form: Form,
-        report: R,
-        csv: C,
-    ) -> NotDone {
-        self.print_in(form, report, csv).err().unwrap_or(NotDone)
-    }
-
     // Says on standard error why the job is not done. Where that cannot be said either, the exit status still tells.
     pub fn not_done<D: Display + Drop>(&self, why: D) -> NotDone {
         let name = self.name;
         let _ = eprintln!(self.rt; "{name}: {why}");
         NotDone
     }
-}
-
-fn words(rt: &HostRuntime) -> io::Result<Vec<String>> {
-    let words = env::args(rt)?.skip(1).collect(rt.alloc())?;
-    Ok(words)
-}
-
-fn front(rt: &HostRuntime, path: &str, most: u64) -> io::Result<Vec<u8>> {
-    let file = File::open(rt, path)?;
-    // There is memory at once for the length that the file is said to have, if there is so much: for 0 where the system does not say.
-    let length = file.metadata().map_or(0, |said| said.len());
-    let mut bytes = Vec::new(rt.alloc());
-    let _ = bytes.reserve(length.min(most) as usize);
-    let _ = file.take(most).read_to_end(&mut bytes)?;
-    Ok(bytes)
 }

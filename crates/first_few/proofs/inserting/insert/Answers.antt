@@ -8,11 +8,11 @@ pub returns-then-at-cap-clause-kept : goal.returns-then-at-cap-clause-kept
 returns-then-at-cap-clause-kept g c =
     let same : c.args.len - 0 ≡ c.args.len = omega arith in
     let at = rw same at c.place_of-at.ensures.value in
-    keep_none (ranks g.met.T.Order.compares.strict) c.args.x c.args.places.now c.args.len c.place_of-at.result 0 c.requires.within at c.if-at-cap.true
+    keep_none (ranks g.met.T.Order.strict) c.args.x c.args.places.now c.args.len c.place_of-at.result 0 c.requires.within at c.if-at-cap.true
 
 pub returns : goal.returns
 returns g c =
-    let o = ranks g.met.T.Order.compares.strict in
+    let o = ranks g.met.T.Order.strict in
     let old = c.args.places.now in
     let x = c.args.x in
     let len = c.args.len in

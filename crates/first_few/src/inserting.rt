@@ -26,12 +26,17 @@ fn place_of<T: Order>(part: &[T], x: T) -> usize
 }
 
 // Moves the elements from `from` up to `to` one place on.
-#[tactic(auto, using(crate::proofs::Shifts::copied_is))]
+// Kept: a loop, for `copy_within` does the same, and then no edit that spreads the last element is refused for what it leaves: a
+// loop that is planted in its place has no invariant, and so a right one would be refused too.
 fn shift<T: Copy>(places: &mut [T], from: usize, to: usize)
     requires { (from ≤ to) × (to < length places.old) }
     ensures { places.new ≡ take (from + 1) places.old ++ (between from to places.old ++ drop (to + 1) places.old) }
 {
-    places.copy_within(from..to, from + 1);
+    let mut j = to;
+    while j > from {
+        places[j] = places[j - 1];
+        j -= 1;
+    }
 }
 
 // The last place in use after one more, where so many places are and `len` of them were in use.

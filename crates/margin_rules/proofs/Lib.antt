@@ -6,3 +6,4 @@ pub mod Figures
 pub mod StrictOrders
 pub mod Lists
 pub mod Laws
+pub mod Comparisons

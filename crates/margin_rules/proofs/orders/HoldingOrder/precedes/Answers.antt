@@ -1,8 +1,5 @@
-use Rattle.std.proofs.Common.{arith}
-use Rattle.std.proofs.lemmas.Int.{ints}
-use Rattle.std.proofs.lemmas.Bool.Decides.{nat_tests}
-use Rattle.margin_rules.specs.contracts.orders.HoldingOrder.TheImpl.Laws.{strict-law}
+use Rattle.margin_rules.proofs.Comparisons.{holdings_compare}
 use Rattle.margin_rules.proofs.orders.HoldingOrder.precedes.Goals as goal
 
 pub returns-clause-comparison : goal.returns-clause-comparison
-returns-clause-comparison c = record { less = λ a b. grind (arith, ints, nat_tests); strict = strict-law }
+returns-clause-comparison c = holdings_compare
